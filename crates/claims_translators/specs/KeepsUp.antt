@@ -17,7 +17,9 @@ pub record KeepsUp (p : Plan) (now : ℕ) (w : Watched) : Type 0 where
   -- once all is laid and its last part was heard, all that it calls for was worked
   pub whole : w.entry.heard.whole ≡ true → p.times w.entry.key ≤ laid p w.entry.key (now - 1) → w.entry.done ≡ called_for w.entry
   -- and an interrupt's answer is there
-  pub answered : w.entry.ask.kind ≡ Interrupt → w.entry.heard.whole ≡ true → p.times w.entry.key ≤ laid p w.entry.key (now - 1) → answer_row w.entry ≡ Result
+  pub answered :
+      w.entry.ask.kind ≡ Interrupt → w.entry.heard.whole ≡ true → p.times w.entry.key ≤ laid p w.entry.key (now - 1)
+      → answer_row w.entry ≡ Result
 
 abbrev pub AllKeepUp : Plan → ℕ → List Watched → Type 0
 AllKeepUp p now [] = Unit {0}

@@ -5,3 +5,4 @@ pub mod Answered
 pub mod HubPlans
 pub mod Gaps
 pub mod Pipelines
+pub mod Translators

@@ -4,7 +4,7 @@
 //! - specs/Plans.antt, specs/HubPlans.antt: what is placed below a translator, and laid for it in each microframe of a frame.
 //! - specs/Watched.antt, specs/Gaps.antt: the entries of its pipeline, and the parts that never came.
 //! - specs/KeepsUp.antt, specs/Answered.antt: what was done for an entry, and when its answer is there.
-//! - specs/Pipelines.antt: the translators of a world.
+//! - specs/Pipelines.antt: the translators of a world; specs/Translators.antt: the clause.
 //!
 //! There is no code, and no proof.
 #![tactic(auto)]

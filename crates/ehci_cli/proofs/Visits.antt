@@ -9,6 +9,8 @@ use Rattle.claims_world.specs.DueAtBegin.{DueAtBeginIsDone}
 use Rattle.law_reports.proofs.lemmas.due_at_begin.Moments.{texts_do_what_is_due_at_begin}
 use Rattle.claims_world.specs.Losses.{RepeatAfterLosses}
 use Rattle.law_microframes.proofs.lemmas.due.lemmas.repeats.RepeatMoments.{texts_repeat_after_losses}
+use Rattle.claims_translators.specs.Translators.{KeepsTranslators}
+use Rattle.law_microframes.proofs.lemmas.translators.TurnsTexts.{texts_keep_translators}
 use Rattle.claims_world.specs.Slots.{SlotsAreDone}
 use Rattle.claims_world.specs.SlotsAtBegin.{SlotsAtBeginAreDone}
 use Rattle.law_reports.proofs.lemmas.due_at_begin.SlotMoments.{texts_do_slots_at_begin}
@@ -45,6 +47,9 @@ source_keeps_to_work = of_each KeepsToWork texts_keep_to_work
 
 pub source_repeats_after_losses : (words : List (List ℕ)) (left : Option (List ℕ)) → OfEachScript RepeatAfterLosses words left
 source_repeats_after_losses = of_each RepeatAfterLosses texts_repeat_after_losses
+
+pub source_keeps_translators : (words : List (List ℕ)) (left : Option (List ℕ)) → OfEachScript KeepsTranslators words left
+source_keeps_translators = of_each KeepsTranslators texts_keep_translators
 
 pub source_does_what_is_due_at_begin : (words : List (List ℕ)) (left : Option (List ℕ)) → OfEachScript DueAtBeginIsDone words left
 source_does_what_is_due_at_begin = of_each DueAtBeginIsDone texts_do_what_is_due_at_begin

@@ -19,6 +19,7 @@ ghost use Rattle.claims_world.specs.InTime.{ArriveInTime};
 ghost use Rattle.claims_world.specs.Due.{KeepsDue};
 ghost use Rattle.claims_world.specs.DueAtBegin.{DueAtBeginIsDone};
 ghost use Rattle.claims_world.specs.Losses.{RepeatAfterLosses};
+ghost use Rattle.claims_translators.specs.Translators.{KeepsTranslators};
 ghost use Rattle.claims_world.specs.Slots.{SlotsAreDone};
 ghost use Rattle.claims_world.specs.SlotsAtBegin.{SlotsAtBeginAreDone};
 ghost use Rattle.claims_world.specs.Unfinished.{KeepsToWork};
@@ -103,6 +104,11 @@ use usb_base::{Sink, Source};
 /// microseconds went for those made again. None is made again where all periodic endpoints are of high speed, nor
 /// while no packet of the walk of the frames was lost or damaged in the microframe.
 ///
+/// Each entry of a translator's pipeline has had, after the work of each microframe, the byte-times that are laid for it in the microframes
+/// before the last, less 188 for each that brought no part of an isochronous OUT, or all that its start-splits call for; and one microframe
+/// after the last in which something is laid for it the result of an interrupt, and the last bytes of an isochronous IN, are there. Where
+/// endpoints have stuffed bits, that is so one microframe later.
+///
 /// Once the walk of the frames is over in a microframe, it came to the queue head of each interrupt endpoint that has this frame, was in
 /// the frame list as the microframe began and is in it still; and of each of high speed that had a transfer then, in a microframe of its
 /// S-mask that isn't held, with its device ready and none of the transaction's packets lost, the packet moved and was written back, where
@@ -168,6 +174,7 @@ pub fn ehci<S: Source, K: Sink>(
     ensures within_load { OfEachScript PaysWithinLoad (map string_bytes words.now) (S.left source.old) }
     ensures in_time { OfEachScript ArriveInTime (map string_bytes words.now) (S.left source.old) }
     ensures repeats { OfEachScript RepeatAfterLosses (map string_bytes words.now) (S.left source.old) }
+    ensures translators { OfEachScript KeepsTranslators (map string_bytes words.now) (S.left source.old) }
     ensures due { OfEachScript KeepsDue (map string_bytes words.now) (S.left source.old) }
     ensures due_at_begin { OfEachScript DueAtBeginIsDone (map string_bytes words.now) (S.left source.old) }
     ensures slots { OfEachScript SlotsAreDone (map string_bytes words.now) (S.left source.old) }

@@ -1,8 +1,7 @@
 -- What is placed as it may be ends within its frame.
-use Rattle.std.proofs.Common.{◌≡◌, ℕ, zero, suc, ◌+◌, ◌<◌, ◌≤◌, List, [], ◌∷◌, ◌++◌, map, slice_get, subst, arith}
-use Rattle.std.specs.Prelude.{Some}
+use Rattle.std.proofs.Common.{◌≡◌, ℕ, zero, suc, ◌+◌, ◌<◌, ◌≤◌, map, arith}
 use Rattle.std.specs.List.{AllByRecursion, flat_map, range_with_len}
-use Rattle.std.proofs.lemmas.Option.{same_Some}
+use Rattle.law_hub_plans.proofs.Common.{all_joined, one_of}
 use Rattle.bandwidth.specs.declared.placements.Placed.{Placed}
 use Rattle.bandwidth.specs.declared.placements.Placement.{Placement}
 use Rattle.bandwidth.specs.declared.placements.Want.{Want}
@@ -13,15 +12,6 @@ use Rattle.law_hub_plans.specs.Laws.{IsPlacedRight}
 
 abbrev pub Ends : Want → Placement → Type 0
 Ends w p = first_in p.smask + laid_cells w ≤ 8
-
-all_joined : (P : Placement → Type 0) (ps qs : List Placement) → AllByRecursion P ps → AllByRecursion P qs → AllByRecursion P (ps ++ qs)
-all_joined P [] qs h k = k
-all_joined P (p ∷ ps) qs h k = (h.0, all_joined P ps qs h.1 k)
-
-one_of : (P : Placement → Type 0) (ps : List Placement) (i : ℕ) (p : Placement) → AllByRecursion P ps → slice_get ps i ≡ Some p → P p
-one_of P [] i p all there = absurd cc
-one_of P (q ∷ ps) zero p all there = subst P (same_Some q p there) all.0
-one_of P (q ∷ ps) (suc i) p all there = one_of P ps i p all.1 there
 
 row_ends : (w : Want) (phase s : ℕ) → IsWant w → s < (placement_row w).starts → Ends w (placement_at w phase s)
 row_ends w phase s want low =

@@ -4,3 +4,4 @@ pub mod Laws
 pub mod Samples
 pub mod Parts
 pub mod Turns
+pub mod Told

@@ -35,3 +35,5 @@ pub mod TurnsHeld
 pub mod TurnsRing
 pub mod TurnsRuns
 pub mod TurnsTexts
+pub mod LastCompletes
+pub mod ToldByLast

@@ -1,8 +1,7 @@
 -- Laws of the translators along a run (USB 2.0, 11.18 and 11.18.4; EHCI 1.0, 4.12).
 --     AlongRuns most P           so it is at each moment of a run where endpoints have at most so many stuffed bits in 36, each plan fits,
 --                                no two keys of a plan are the same, and each start-split follows its plan
---     AlongTexts P               .. in the run of each script that a text spells
---     AlongPlainTexts P          .. where no endpoint has stuffed bits
+--     TextsKeepTranslators       so the translators keep up in each such run
 --     PartsComeInTurn            in such a run no part of an isochronous OUT comes behind the last one, nor two in a microframe
 --     TextsHaveFewStuffedBits                no endpoint of a script that a text spells has more than six of them in 36
 --     InterruptsFollow           each start-split of a queue head follows its plan; SitdsFollowToo: and each of a siTD
@@ -19,6 +18,7 @@ use Rattle.bus_world.specs.World.{World, driver_next, commanded}
 use Rattle.bus_world.specs.Budgets.{moment}
 use Rattle.claims_translators.specs.Plans.{Plan}
 use Rattle.claims_translators.specs.Watched.{Watched}
+use Rattle.claims_translators.specs.Translators.{KeepsTranslators}
 use Rattle.claims_translators.specs.Pipelines.{StuffsAtMost, EachPipeline}
 use Rattle.law_microframes.specs.translators.Keeping.{IsOwned, StartsFollow, SitdsFollow, PartsAreLacked, IsKnown}
 use Rattle.claims_translators.specs.Gaps.{gaps}
@@ -27,13 +27,8 @@ abbrev pub AlongRuns : ℕ → (Plan → ℕ → List Watched → Type 0) → Ty
 AlongRuns most P = (s : Script) → StuffsAtMost most (fixed_of s) → ((k : ℕ) → IsKnown (moment s k).world) → (k : ℕ)
     → EachPipeline P (moment s k).world (gaps s k)
 
-abbrev pub AlongTexts : (Plan → ℕ → List Watched → Type 0) → Type 0
-AlongTexts P = (text : List ℕ) (s : Script) → Spells text s → (k : ℕ) → EachPipeline P (moment s k).world (gaps s k)
-
--- .. where no endpoint has stuffed bits
-abbrev pub AlongPlainTexts : (Plan → ℕ → List Watched → Type 0) → Type 0
-AlongPlainTexts P = (text : List ℕ) (s : Script) → Spells text s → StuffsAtMost 0 (fixed_of s) → (k : ℕ)
-    → EachPipeline P (moment s k).world (gaps s k)
+abbrev pub TextsKeepTranslators : Type 0
+TextsKeepTranslators = (text : List ℕ) (s : Script) → Spells text s → KeepsTranslators s
 
 -- no part of an isochronous OUT comes behind the last one, nor two in a microframe
 abbrev pub PartsComeInTurn : Type 0

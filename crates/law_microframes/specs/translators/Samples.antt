@@ -4,10 +4,9 @@
 --     begun, gone_on       the speaker's first part came; so many microframes later, of which none brought a part
 --     ended                .. and the last part came at once
 --     spoken es            a world where the translator of hub 9 has these entries
+--     speaking o es        .. and the siTD of the speaker is in hand, after the first of its parts, with this settlement
 --     stuffed_bits n       the keyboard of the script has this number of stuffed bits in 36
---     speaker max          an endpoint of the speaker's kind, of packets with at most so many bytes
-use Rattle.std.specs.Prelude.{ℕ, false, List, [], ◌∷◌, map, replicate, Some}
-use Rattle.usb_base.specs.declared.endpoints.EpDesc.{EpDesc}
+use Rattle.std.specs.Prelude.{ℕ, true, false, Option, Some, List, [], ◌∷◌, map, replicate}
 use Rattle.usb_base.specs.declared.packets.Ask.{Ask}
 use Rattle.usb_base.specs.declared.packets.DataPart.TheVariants.{All, Begin, End}
 use Rattle.usb_base.specs.declared.packets.EpKind.TheVariants.{Iso}
@@ -18,6 +17,11 @@ use Rattle.usb_base.specs.declared.packets.Split.TheVariants.{Start}
 use Rattle.usb_base.specs.declared.packets.Way.TheVariants as ways
 use Rattle.script_types.specs.declared.devices.Item.TheVariants as items
 use Rattle.hub_keys.specs.Keys.{key_of}
+use Rattle.itd_sitd.specs.declared.sitd.Sitd.{Sitd}
+use Rattle.hc_iso.specs.declared.held.SplitOutcome.{SplitOutcome}
+use Rattle.periodic_walk.specs.declared.state.Hand.TheVariants as hands
+use Rattle.hc_core.specs.declared.controller.MicroframePart.TheVariants.{Periodic}
+use Rattle.hc_core.specs.Controller.{Control}
 use Rattle.hub_keys.specs.declared.key.Key.{Key}
 use Rattle.tt_bulk.specs.Contents as Bulk
 use Rattle.tt_pipeline.specs.declared.entry.Entry.{Entry}
@@ -72,6 +76,44 @@ spoken es = record (opening_world keyboard_and_disk) {
     hubs = map (with_pipeline es) (opening_world keyboard_and_disk).bus.hubs;
   };
 }
+
+abbrev pub speaker_sitd : Sitd
+speaker_sitd = record {
+  link = record { t = true; typ = 0; address = 0 };
+  addr = 3;
+  ep = 1;
+  hub = 9;
+  port = 2;
+  dir_in = false;
+  smask = 6;
+  cmask = 0;
+  split_state = false;
+  missed = false;
+  xact_err = false;
+  babble = false;
+  buffer_error = false;
+  err = false;
+  active = true;
+  c_prog = 2;
+  total = 24;
+  page_select = false;
+  ioc = false;
+  offset = 188;
+  page0 = 4096;
+  t_count = 1;
+  tp = 3;
+  page1 = 8192;
+  back = record { t = true; address = 0 };
+}
+
+abbrev pub with_hand : Option SplitOutcome → Control → Control
+with_hand o c = record c {
+  part = Periodic;
+  frame = record c.frame { hand = Some (hands.Sitd (record { at = 64; sitd = speaker_sitd; settled = o })) };
+}
+
+abbrev pub speaking : Option SplitOutcome → List Entry → World
+speaking o es = record (spoken es) { control = with_hand o (spoken es).control }
 
 -- ---- stuffed bits
 

@@ -1,7 +1,6 @@
 //! The same of each script that a text spells: each start-split follows its plan.
-ghost use Rattle.claims_translators.specs.KeepsUp.{AllKeepUp, AllKeepUpStuffed};
-ghost use Rattle.claims_translators.specs.Answered.{AllAnswered};
-ghost use Rattle.law_microframes.specs.translators.Laws.{AlongTexts, AlongPlainTexts, PartsComeInTurn, TextsHaveFewStuffedBits, InterruptsFollow, SitdsFollowToo};
+ghost use Rattle.law_microframes.specs.translators.Laws.{PartsComeInTurn, TextsKeepTranslators, TextsHaveFewStuffedBits, InterruptsFollow, SitdsFollowToo};
+ghost use Rattle.law_microframes.specs.translators.Told.{LastCompletesAreLate, TextsTellByLast};
 
 /// Each start-split of a queue head is one that the plan of its translator calls for, and its endpoint isn't given back in the frame.
 pub fn interrupts_follow()
@@ -24,14 +23,14 @@ pub fn texts_have_few_stuffed_bits()
     ensures { TextsHaveFewStuffedBits }
 {}
 
-/// So the translators keep up.
+/// So the translators keep up, with stuffed bits one microframe later.
 pub fn texts_keep_up()
-    ensures work { AlongPlainTexts AllKeepUp }
-    ensures answers { AlongPlainTexts (AllAnswered 1) }
+    ensures { TextsKeepTranslators }
 {}
 
-/// .. and with stuffed bits one microframe later.
-pub fn stuffed_texts_keep_up()
-    ensures work { AlongTexts AllKeepUpStuffed }
-    ensures answers { AlongTexts (AllAnswered 2) }
+/// Of an interrupt endpoint, and of an isochronous IN, two microframes lie between the last in which something is laid and the last
+/// complete-split; so at the begin of that one the result is there, and the last bytes.
+pub fn answers_are_there_for_the_last_complete()
+    ensures late { LastCompletesAreLate }
+    ensures told { TextsTellByLast }
 {}

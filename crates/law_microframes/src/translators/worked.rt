@@ -1,5 +1,5 @@
 //! Worked rows: what meets the premises, and what breaks each.
-ghost use Rattle.std.specs.Prelude.{◌≡◌, [], ◌∷◌, List};
+ghost use Rattle.std.specs.Prelude.{◌≡◌, ℕ, List, [], None, Some};
 ghost use Rattle.usb_base.specs.declared.packets.DataPart.TheVariants.{Middle};
 ghost use Rattle.drv_chains.specs.declared.boundary.Boundary.TheVariants.{Since, Seen};
 ghost use Rattle.tt_pipeline.specs.Worked.{iso_out};
@@ -10,7 +10,11 @@ ghost use Rattle.claims_translators.specs.Pipelines.{StuffsAtMost};
 ghost use Rattle.law_microframes.specs.translators.Keeping.{IsOwned, EntryLacks};
 ghost use Rattle.claims_translators.specs.HubPlans.{plans_now};
 ghost use Rattle.law_microframes.specs.translators.Parts.{EachOf, Lacks, IsEven};
-ghost use Rattle.law_microframes.specs.translators.Samples.{camera_start, camera_key, leaving, speaker_key, begun, gone_on, ended, spoken, stuffed_bits};
+ghost use Rattle.hc_iso.specs.declared.held.SplitOutcome.TheVariants.{Moved};
+ghost use Rattle.bus_world.specs.World.{World};
+ghost use Rattle.law_microframes.specs.translators.Told.{IsLastIn};
+ghost use Rattle.law_microframes.specs.translators.Turns.{EntriesAre, IsUnasked, OutsGoOn};
+ghost use Rattle.law_microframes.specs.translators.Samples.{speaking, speaker_sitd, camera_start, camera_key, leaving, speaker_key, begun, gone_on, ended, spoken, stuffed_bits};
 
 /// The camera's start-split follows its plan in microframe 1 of its frames, in no other microframe, and at no other hub.
 pub fn a_camera_follows_its_plan()
@@ -56,4 +60,21 @@ pub fn a_speakers_entry()
     ensures over { EachOf Lacks speaker_key (ended 1) → ⊥ }
     ensures even { EachOf IsEven speaker_key (gone_on 1) }
     ensures uneven { EachOf IsEven speaker_key begun → ⊥ }
+{}
+
+/// The speaker's siTD in hand, one of whose parts was sent, waits for its transaction until that is settled; where its entry has its last
+/// part already, what goes on of the OUTs is broken.
+pub fn a_speaker_in_hand()
+    ensures waits { IsUnasked (speaking None (gone_on 1)).control 64 }
+    ensures asked { IsUnasked (speaking (Some (Moved 24)) (gone_on 1)).control 64 → ⊥ }
+    ensures elsewhere { IsUnasked (speaking None (gone_on 1)).control 96 → ⊥ }
+    ensures lacks { EntriesAre Lacks (speaking None (gone_on 1)).bus.hubs speaker_sitd }
+    ensures over { (start : World) → (vs : List ℕ) → OutsGoOn start (speaking None (ended 1)) vs → ⊥ }
+{}
+
+/// Of an interrupt endpoint with its start-split in microframe 0 the last complete-split is in microframe 4.
+pub fn a_last_complete()
+    ensures last { IsLastIn 28 4 }
+    ensures later { IsLastIn 28 3 → ⊥ }
+    ensures none { IsLastIn 28 5 → ⊥ }
 {}

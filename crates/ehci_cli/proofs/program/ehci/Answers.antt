@@ -5,7 +5,7 @@ use Rattle.ehci_cli.proofs.Memory.{source_keeps_links}
 use Rattle.ehci_cli.proofs.Requests.{source_keeps_requests}
 use Rattle.ehci_cli.proofs.Streams.{source_ends_once, source_keeps_streams}
 use Rattle.ehci_cli.proofs.Visits.{source_keeps_visits, source_pays_within_load, source_is_in_time, source_ends_microframes, source_keeps_due, source_does_slots, source_keeps_to_work, source_repeats_after_losses}
-use Rattle.ehci_cli.proofs.Visits.{source_does_what_is_due_at_begin, source_does_slots_at_begin}
+use Rattle.ehci_cli.proofs.Visits.{source_does_what_is_due_at_begin, source_does_slots_at_begin, source_keeps_translators}
 use Rattle.ehci_cli.proofs.Whole.{whole_load}
 use Rattle.ehci_cli.proofs.program.ehci.Goals as goal
 
@@ -56,6 +56,9 @@ returns-clause-in_time g c = source_is_in_time _ _
 
 pub returns-clause-repeats : goal.returns-clause-repeats
 returns-clause-repeats g c = source_repeats_after_losses _ _
+
+pub returns-clause-translators : goal.returns-clause-translators
+returns-clause-translators g c = source_keeps_translators _ _
 
 pub returns-clause-due : goal.returns-clause-due
 returns-clause-due g c = source_keeps_due _ _

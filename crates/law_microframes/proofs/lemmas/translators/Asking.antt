@@ -34,9 +34,9 @@ use Rattle.periodic_walk.specs.Place.{FramePlace, reading, Effect, sent}
 use Rattle.periodic_walk.specs.Place.Effect.{Leaves, Asks}
 use Rattle.periodic_walk.specs.Queue.{taken_row, turn_row, settled_row, queue_read, queue_left_by, queue_effect}
 use Rattle.periodic_walk.specs.Itd as Itds
-use Rattle.periodic_walk.specs.Itd.{itd_row, itd_effect}
+use Rattle.periodic_walk.specs.Itd.{itd_effect}
 use Rattle.periodic_walk.specs.Sitd as Sitds
-use Rattle.periodic_walk.specs.Sitd.{sitd_row, sitd_effect}
+use Rattle.periodic_walk.specs.Sitd.{sitd_effect}
 use Rattle.periodic_walk.specs.Rows.{effect_at}
 
 module _ (C : Ask → List ℕ → Type 0) where

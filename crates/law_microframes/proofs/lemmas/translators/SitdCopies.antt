@@ -1,6 +1,6 @@
 -- The copy of an active siTD in hand that waits for its transaction is one of a descriptor that isn't given back, and has the fields of its
 -- endpoint (EHCI 1.0, 3.4, 4.6 and 4.12.3).
-use Rattle.std.proofs.Common.{◌≡◌, ℕ, ◌*◌, Bool, true, false, slice_get, Option, Some, None, refl, sym, ap, subst, ◌∙◌, ⊎_elim}
+use Rattle.std.proofs.Common.{◌≡◌, ℕ, Bool, true, false, slice_get, Some, None, refl, sym, ap, subst, ◌∙◌, ⊎_elim}
 use Rattle.std.proofs.lemmas.Bool.{true≢false}
 use Rattle.law_microframes.proofs.Common.{out_dir}
 use Rattle.law_driver.proofs.Common.{waits_is}
@@ -22,7 +22,6 @@ use Rattle.drv_periodic_table.specs.Periodic.{dir_of, note_at}
 use Rattle.periodic_walk.specs.declared.state.Hand.TheVariants as hands
 use Rattle.hc_core.specs.declared.controller.MicroframePart.TheVariants.{Periodic}
 use Rattle.hc_core.specs.Controller.{frame_place}
-use Rattle.drv_table.specs.declared.content.Transfer.{Transfer}
 use Rattle.drv_table.specs.DriverContent.{DriverContent}
 use Rattle.bandwidth.specs.declared.placements.Placement.{Placement}
 use Rattle.bus_world.specs.World.{World, controller_parts}

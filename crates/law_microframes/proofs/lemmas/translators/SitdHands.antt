@@ -1,6 +1,6 @@
 -- The start-split of the siTD in hand is one that the plan of its translator calls for, and its endpoint isn't given back in the frame,
 -- where of an OUT that was begun the entry lacks its last part (EHCI 1.0, 3.4, 4.6 and 4.12.3; USB 2.0, 11.14 and 11.18).
-use Rattle.std.proofs.Common.{◌≡◌, ℕ, ◌%◌, ◌<◌, Bool, true, false, slice_get, Option, Some, None, refl, sym, ap, subst, ◌∙◌, ⊎_elim, arith, if◌then◌else◌}
+use Rattle.std.proofs.Common.{◌≡◌, ℕ, ◌%◌, ◌<◌, Bool, true, false, slice_get, Option, Some, None, refl, sym, ap, subst, ◌∙◌, arith, if◌then◌else◌}
 use Rattle.std.specs.Prelude.{◌==◌, nat_lt, nat_eq, unwrap_or, position}
 use Rattle.std.proofs.lemmas.Bool.{true≢false, lt-ltb, eq-eqb, and_from}
 use Rattle.std.proofs.lemmas.Option.{same_Some}
@@ -24,43 +24,33 @@ use Rattle.hc_iso.specs.Sitd.{sitd_missed, comes, sitd_turn, part_bytes, sitd_in
 use Rattle.bandwidth.specs.declared.placements.Placement.{Placement}
 use Rattle.bandwidth.specs.Placements.{is_classic}
 use Rattle.bandwidth.specs.Sums.{is_hub, is_active}
-use Rattle.drv_periodic_table.specs.Descriptors.{is_served}
-use Rattle.drv_periodic_table.specs.Periodic.{dir_of, note_at}
+use Rattle.drv_periodic_table.specs.Periodic.{note_at}
 use Rattle.hc_core.specs.declared.controller.MicroframePart.TheVariants.{Periodic}
-use Rattle.hc_core.specs.Controller.{frame_place}
 use Rattle.drv_table.specs.declared.content.Transfer.{Transfer}
 use Rattle.drv_table.specs.Kinds.{is_iso}
 use Rattle.drv_table.specs.Words.{is_high}
 use Rattle.bus_wire.specs.Bus.{fixed_of, opening_bus}
-use Rattle.bus_world.specs.World.{World, controller_parts}
+use Rattle.bus_world.specs.World.{World}
 use Rattle.claims_world.specs.FrameHeads.{IsAllowed}
 use Rattle.claims_world.specs.Visits.{frame_in}
 use Rattle.law_budgets.specs.visit_prices.Spent.{placed_as}
 use Rattle.law_driver.specs.queued_drivers.Queued.{IsOfWay, FitsKind}
-use Rattle.law_structures.specs.lent_structures.Structures.{SplitIsochronous}
 use Rattle.law_frames.specs.Met.{ASitd}
-use Rattle.law_frames.specs.Frame.{IsCopiedSitd, IsTurned, IsFrameWalk, IsInFrame}
-use Rattle.law_descriptors.specs.Both.{both}
-use Rattle.law_descriptors.specs.Meeting.{met}
 use Rattle.law_world.specs.memory.Mixed.{Standing, IsMixedAt}
 use Rattle.law_hub_plans.specs.HubPlans.{AreKeysApart}
 use Rattle.law_hub_plans.specs.Laws.{IsPlacedRight}
 use Rattle.law_microframes.specs.plans.Laws.{PlacesAreRight}
-use Rattle.law_microframes.specs.visits.Belonging.{placed_of, IsDescriptorAt, IsHarvestedAt}
+use Rattle.law_microframes.specs.visits.Belonging.{placed_of, IsDescriptorAt}
 use Rattle.law_microframes.specs.visits.OneDescriptor.{IsActiveSome, AreServed}
 use Rattle.law_microframes.specs.time.PaymentLaws.{HasPeriodics}
-use Rattle.law_microframes.specs.time.SitdFields.{HaveSitdFields, SplitTransfer, SitdsStand}
+use Rattle.law_microframes.specs.time.SitdFields.{HaveSitdFields, SitdsStand}
 use Rattle.law_microframes.specs.due.repeats.Hearing.{number_of, is_control_way, IsHeardOn}
 use Rattle.law_microframes.specs.translators.Watching.{StartFollows}
 use Rattle.law_microframes.specs.translators.Keeping.{key_for, IsOwned, EntryLacks}
 use Rattle.law_microframes.proofs.lemmas.visits.ActiveStands.{active_is_framed}
-use Rattle.law_microframes.proofs.lemmas.visits.BelongDescriptors.{descriptor_belongs}
-use Rattle.law_microframes.proofs.lemmas.visits.OneDescriptorMet.{met_split_is_active}
 use Rattle.law_microframes.proofs.lemmas.time.PaymentFrames.{chained_active}
 use Rattle.law_microframes.proofs.lemmas.time.PaymentIsochronous.{one_transfer, iso_now}
-use Rattle.law_microframes.proofs.lemmas.time.PaymentReading.{not_whole}
 use Rattle.law_microframes.proofs.lemmas.time.SitdParts.{works}
-use Rattle.law_microframes.proofs.lemmas.time.SitdWorlds.{IsSitdFrame, sitd_in_hand}
 use Rattle.law_microframes.proofs.lemmas.time.SplitMasked.{allowed_are_split}
 use Rattle.law_microframes.proofs.lemmas.due.lemmas.repeats.Endpoints.{AllStand}
 use Rattle.law_microframes.proofs.lemmas.translators.Hands.{numbered}

@@ -43,10 +43,6 @@ use Rattle.law_world.specs.memory.Mixed.{Standing, IsMixedAt, IsMixedWorld}
 use Rattle.law_world.proofs.lemmas.memory.FittingTexts.{texts_open_fitting}
 use Rattle.law_world.proofs.lemmas.memory.Texts.{texts_fit}
 use Rattle.law_world.proofs.lemmas.memory.Together.{texts_stay_mixed}
-use Rattle.claims_translators.specs.Plans.{Plan}
-use Rattle.claims_translators.specs.Watched.{Watched}
-use Rattle.claims_translators.specs.KeepsUp.{AllKeepUp, AllKeepUpStuffed}
-use Rattle.claims_translators.specs.Answered.{AllAnswered}
 use Rattle.law_hub_plans.specs.HubPlans.{AreKeysApart}
 use Rattle.claims_translators.specs.HubPlans.{is_below, placed_below, key_at, plans_now}
 use Rattle.law_microframes.specs.plans.Laws.{PlacesAreRight}
@@ -58,11 +54,8 @@ use Rattle.law_microframes.specs.time.Payments.{names_in}
 use Rattle.law_microframes.specs.time.PaymentLaws.{IsHandPaid, IsPassing, ArePaidByHand}
 use Rattle.law_microframes.specs.due.repeats.Hearing.{IsHeardOn}
 use Rattle.law_microframes.specs.translators.Watching.{StartFollows}
-use Rattle.claims_translators.specs.Pipelines.{StuffsAtMost, EachPipeline}
-use Rattle.law_microframes.specs.translators.Keeping.{IsOwned, AsksInFrames, StartsFollow, SitdsFollow, PartsAreLacked, IsKnown}
-use Rattle.claims_translators.specs.Gaps.{gaps}
-use Rattle.law_microframes.specs.translators.Laws.{AlongRuns, AlongTexts, AlongPlainTexts, InterruptsFollow}
-use Rattle.law_microframes.proofs.lemmas.translators.StuffTexts.{texts_have_few_stuffed_bits}
+use Rattle.law_microframes.specs.translators.Keeping.{IsOwned, AsksInFrames, StartsFollow, SitdsFollow, IsKnown}
+use Rattle.law_microframes.specs.translators.Laws.{InterruptsFollow}
 use Rattle.law_microframes.proofs.lemmas.plans.Keys.{kept_apart, texts_plan_apart, texts_plan_hubs}
 use Rattle.law_microframes.proofs.lemmas.plans.Right.{scripts_place_right}
 use Rattle.law_microframes.proofs.lemmas.visits.BelongMoments.{scripts_keep_fields}
@@ -78,8 +71,6 @@ use Rattle.law_microframes.proofs.lemmas.due.lemmas.repeats.Endpoints.{AllStand,
 use Rattle.law_microframes.proofs.lemmas.translators.Asking.{QueueAsks, SitdAsks, walk_asking, asked_so}
 use Rattle.law_microframes.proofs.lemmas.translators.FrameIndex.{scripts_have_index}
 use Rattle.law_microframes.proofs.lemmas.translators.Hands.{starts_split, works_in, held_as, copy_follows}
-use Rattle.law_microframes.proofs.lemmas.translators.SitdFollowing.{sitds_follow}
-use Rattle.law_microframes.proofs.lemmas.translators.Promises.{keep_up, answer_in_time, stuffed_keep_up, stuffed_answer_in_time}
 
 no_start : (hub port : ℕ) (part : DataPart) → splits.Plain ≡ splits.Start hub port part → ⊥
 no_start hub port part e = cc

@@ -1,6 +1,6 @@
 -- To the first part of an isochronous OUT in its frame no entry of its key lacks nothing: what has an entry began in an earlier microframe,
 -- or in this one (USB 2.0, 11.18.4; EHCI 1.0, 4.12.3).
-use Rattle.std.proofs.Common.{◌≡◌, ℕ, ◌%◌, ◌<◌, Bool, true, false, List, [], ◌∷◌, length, slice_get, Option, Some, None, refl, sym, ap, subst, ◌∙◌, inl, inr, ◌⊎◌, arith, if◌then◌else◌}
+use Rattle.std.proofs.Common.{◌≡◌, ℕ, ◌%◌, Bool, true, false, List, [], ◌∷◌, length, slice_get, Option, Some, None, refl, sym, ap, subst, ◌∙◌, inl, inr, arith, if◌then◌else◌}
 use Rattle.std.specs.Prelude.{◌==◌, ◌||◌, nat_lt, position}
 use Rattle.std.specs.Option.{option_map_or}
 use Rattle.std.proofs.lemmas.Bool.{true≢false, or_parts, eqb-true}
@@ -13,7 +13,7 @@ use Rattle.hub_keys.specs.declared.key.Key.{Key}
 use Rattle.tt_pipeline.specs.declared.entry.Brought.{Brought}
 use Rattle.tt_pipeline.specs.declared.entry.Entry.{Entry}
 use Rattle.tt_pipeline.specs.declared.rows.StartRow.TheVariants.{Enters, Forgotten}
-use Rattle.tt_pipeline.specs.Starting.{has_key, is_there, row_of_part}
+use Rattle.tt_pipeline.specs.Starting.{is_there, row_of_part}
 use Rattle.tt_pipeline.specs.Work.{asked_part, nothing_brought}
 use Rattle.multi_tt.specs.Single.{is_buffered}
 use Rattle.multi_tt.specs.Translators.{Translator, place_of}
@@ -21,7 +21,6 @@ use Rattle.hub_class.specs.HubContent.{HubContent}
 use Rattle.bus_world.specs.World.{World}
 use Rattle.claims_translators.specs.Plans.{Plan}
 use Rattle.law_translator.specs.Frames.{Frame}
-use Rattle.claims_translators.specs.Watched.{Watched}
 use Rattle.law_translator.specs.Premises.{FollowsRow, Follows}
 use Rattle.law_translator.proofs.Keys.{same_key}
 use Rattle.law_translator.proofs.Owing.{Came, unseen, partial, ended, Seen, Coming}

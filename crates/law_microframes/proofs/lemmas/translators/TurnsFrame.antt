@@ -1,6 +1,6 @@
 -- An event of the walk of the frames leaves what is told of the isochronous OUTs below hubs whose siTD isn't in hand: it starts another key,
 -- or that of the one in hand, which alone is active for its endpoint in the frame (EHCI 1.0, 4.6 and 4.12.3; USB 2.0, 11.18.4).
-use Rattle.std.proofs.Common.{◌≡◌, ◌≢◌, ℕ, ◌*◌, ◌%◌, ◌<◌, ◌≤◌, Bool, true, false, List, [], ◌∷◌, length, slice_get, Option, Some, None, refl, sym, ap, subst, ◌∙◌, inl, inr, ◌⊎◌, ⊎_elim, arith}
+use Rattle.std.proofs.Common.{◌≡◌, ◌≢◌, ℕ, ◌*◌, ◌%◌, ◌<◌, ◌≤◌, true, false, List, [], ◌∷◌, length, Option, Some, None, refl, sym, ap, subst, ◌∙◌, inl, inr, ◌⊎◌, ⊎_elim}
 use Rattle.std.specs.Prelude.{◌==◌, not}
 use Rattle.std.specs.List.{AllByRecursion}
 use Rattle.std.proofs.lemmas.Bool.{true≢false, cases_Bool, cases_eq, cases_lt}
@@ -18,9 +18,8 @@ use Rattle.hc_interrupt.specs.Turns.{microframe_of}
 use Rattle.hc_iso.specs.declared.held.HeldSitd.{HeldSitd}
 use Rattle.hc_iso.specs.declared.held.SitdTurn.TheVariants.{Work}
 use Rattle.hc_iso.specs.Sitd.{sitd_turn, sitd_missed, comes, sitd_transaction, sitd_copy}
-use Rattle.drv_periodic_table.specs.Descriptors.{sitd_in, is_served}
+use Rattle.drv_periodic_table.specs.Descriptors.{sitd_in}
 use Rattle.drv_periodic_table.specs.Periodic.{note_at}
-use Rattle.drv_chains.specs.declared.members.Member.{Member}
 use Rattle.periodic_walk.specs.declared.state.Hand.{Hand}
 use Rattle.periodic_walk.specs.declared.state.Hand.TheVariants as hands
 use Rattle.hc_core.specs.declared.controller.ControllerRow.{ControllerRow}
@@ -28,21 +27,18 @@ use Rattle.hc_core.specs.declared.controller.ControllerRow.TheVariants as rows
 use Rattle.hc_core.specs.declared.controller.MicroframePart.TheVariants.{Periodic}
 use Rattle.hc_core.specs.Controller.{frame_place}
 use Rattle.drv_table.specs.declared.content.Transfer.{Transfer}
-use Rattle.drv_table.specs.DriverContent.{DriverContent}
 use Rattle.tt_pipeline.specs.declared.entry.Entry.{Entry}
 use Rattle.tt_pipeline.specs.Work.{asked_part}
 use Rattle.claims_driver.specs.DueMembers.{framed_to}
 use Rattle.bus_wire.specs.Bus.{Bus, Fixed}
 use Rattle.bus_world.specs.World.{World, controller_parts, controller_row, controller_next}
 use Rattle.claims_world.specs.Visits.{frame_in, HasVisited}
-use Rattle.law_frames.specs.Met.{Kind}
 use Rattle.law_queues.specs.open_laws.Opens.{AreNamesApart}
 use Rattle.law_translator.proofs.Keys.{same_key}
 use Rattle.law_world.specs.memory.Mixed.{Standing, IsMixedAt}
-use Rattle.law_microframes.specs.time.SitdFields.{HaveSitdFields, SplitTransfer, SitdsStand}
+use Rattle.law_microframes.specs.time.SitdFields.{SplitTransfer}
 use Rattle.law_microframes.specs.translators.Parts.{EachOf, Lacks, IsEven, key_asked}
-use Rattle.law_microframes.specs.translators.Turns.{pipeline_for, EntriesAre, IsInHand, IsUnasked, IsInFrame, OutsGoOn, OtherAsksLeave}
-use Rattle.law_microframes.specs.visits.Belonging.{IsDescriptorAt}
+use Rattle.law_microframes.specs.translators.Turns.{pipeline_for, EntriesAre, IsInHand, IsInFrame, OutsGoOn, OtherAsksLeave}
 use Rattle.law_microframes.specs.visits.OneDescriptor.{IsMixedOnce}
 use Rattle.law_microframes.specs.visits.Visited.{WasVisited, IsFramedAs}
 use Rattle.law_microframes.proofs.lemmas.visits.OneDescriptor.{IsActiveFramed, active_framed, one_framed_each}
@@ -58,7 +54,7 @@ use Rattle.law_microframes.proofs.lemmas.translators.TurnsAsks.{other_asks_leave
 use Rattle.law_microframes.proofs.lemmas.translators.TurnsKeys.{other_key, way_by_key}
 use Rattle.law_microframes.proofs.lemmas.translators.TurnsMemory.{IsKin, kin_entries, memory_kin}
 use Rattle.law_microframes.proofs.lemmas.translators.TurnsNew.{unframed_is_new}
-use Rattle.law_microframes.proofs.lemmas.translators.TurnsWalk.{NoSitd, FrameTurn, turn_rests, turn_fetches, turn_another, turn_transacts, world_turn}
+use Rattle.law_microframes.proofs.lemmas.translators.TurnsWalk.{FrameTurn, turn_rests, turn_fetches, turn_another, turn_transacts, world_turn}
 use Rattle.law_microframes.proofs.lemmas.translators.Worlds.{index_after, index_by}
 
 -- ---- small facts

@@ -1,9 +1,9 @@
 -- An event of the walk of the frames goes on with what is told of the isochronous OUTs below hubs: the siTD that it reads, and the one whose
 -- transaction it makes (EHCI 1.0, 3.4.4, 4.6 and 4.12.3; USB 2.0, 11.18.4).
-use Rattle.std.proofs.Common.{◌≡◌, ◌≢◌, ℕ, ◌*◌, ◌%◌, ◌<◌, Bool, true, false, List, [], ◌∷◌, slice_get, Option, Some, None, refl, sym, ap, subst, ◌∙◌, inl, inr, ◌⊎◌, ⊎_elim, arith}
+use Rattle.std.proofs.Common.{◌≡◌, ℕ, ◌*◌, ◌<◌, Bool, true, false, List, [], ◌∷◌, Option, Some, None, refl, sym, ap, subst, ◌∙◌, inl, inr, ◌⊎◌, ⊎_elim, arith}
 use Rattle.std.specs.Prelude.{◌==◌}
 use Rattle.std.specs.List.{AllByRecursion}
-use Rattle.std.proofs.lemmas.Bool.{true≢false, cases_Bool}
+use Rattle.std.proofs.lemmas.Bool.{cases_Bool}
 use Rattle.usb_base.specs.declared.packets.Dir.TheVariants as dirs
 use Rattle.usb_base.specs.declared.packets.EpKind.TheVariants as kinds
 use Rattle.usb_base.specs.declared.packets.Reply.{Reply}
@@ -26,21 +26,19 @@ use Rattle.hc_core.specs.declared.controller.ControllerRow.{ControllerRow}
 use Rattle.hc_core.specs.declared.controller.ControllerRow.TheVariants as rows
 use Rattle.hc_core.specs.declared.controller.MicroframePart.TheVariants.{Periodic}
 use Rattle.hc_core.specs.Controller.{frame_place}
-use Rattle.tt_pipeline.specs.declared.entry.Entry.{Entry}
 use Rattle.bus_wire.specs.Bus.{Bus, Fixed, transact_after}
 use Rattle.bus_world.specs.World.{World, controller_parts, controller_row, controller_next}
 use Rattle.claims_world.specs.Visits.{frame_in, HasVisited, fetched_by, visited_too, visits_at, visits_after}
 use Rattle.law_structures.specs.lent_structures.Structures.{HoldsSplitIsochronous}
 use Rattle.law_translator.proofs.Keys.{same_key}
 use Rattle.law_world.specs.memory.Mixed.{Standing, IsMixedAt}
-use Rattle.law_microframes.specs.translators.Keeping.{key_for}
 use Rattle.law_microframes.specs.translators.Parts.{EachOf, Lacks, IsEven, key_asked}
-use Rattle.law_microframes.specs.translators.Turns.{pipeline_for, EntriesAre, IsInHand, IsUnasked, IsOfKey, BroughtPart, IsReadFor, OutsGoOn, OtherAsksLeave}
+use Rattle.law_microframes.specs.translators.Turns.{pipeline_for, EntriesAre, IsUnasked, IsOfKey, BroughtPart, IsReadFor, OutsGoOn, OtherAsksLeave}
 use Rattle.law_microframes.specs.visits.Ranks.{name_of}
 use Rattle.law_microframes.specs.visits.Visited.{link_ahead}
 use Rattle.law_microframes.specs.visits.OneDescriptor.{IsActiveDescriptor}
 use Rattle.law_microframes.proofs.lemmas.time.PaymentReading.{sitd_cursor, IsSplitThere, sitd_told}
-use Rattle.law_microframes.proofs.lemmas.translators.Parts.{completes_lack, completes_even, other_starts}
+use Rattle.law_microframes.proofs.lemmas.translators.Parts.{completes_even, other_starts}
 use Rattle.law_microframes.proofs.lemmas.translators.SitdCopies.{split_at, out_named}
 use Rattle.law_microframes.proofs.lemmas.translators.Turns.{asked_even}
 use Rattle.law_microframes.proofs.lemmas.translators.TurnsAsks.{other_asks_leave, later_parts_leave}

@@ -1,7 +1,6 @@
 -- Keys of isochronous OUTs, and what a part of one leaves of its own key (USB 2.0, 11.18.4; EHCI 1.0, 3.4.4 and 4.12.3).
-use Rattle.std.proofs.Common.{◌≡◌, ℕ, Bool, true, false, List, length, Option, Some, refl, sym, ap, subst, ◌∙◌, inl, inr, ◌⊎◌, if◌then◌else◌}
-use Rattle.std.specs.Prelude.{◌==◌, ◌&&◌, not, nat_le}
-use Rattle.std.proofs.lemmas.Bool.{true≢false, cases_Bool}
+use Rattle.std.proofs.Common.{◌≡◌, ℕ, Bool, true, false, List, refl, sym, ap, ◌∙◌, if◌then◌else◌}
+use Rattle.std.specs.Prelude.{◌==◌, ◌&&◌}
 use Rattle.law_common.proofs.Booleans.{and_false}
 use Rattle.law_microframes.proofs.Common.{heard_way}
 use Rattle.usb_base.specs.declared.packets.Ask.{Ask}
@@ -17,14 +16,14 @@ use Rattle.hub_keys.specs.Keys.{key_of, is_same_key, is_same_direction, is_same_
 use Rattle.hub_keys.specs.declared.key.Key.{Key}
 use Rattle.itd_sitd.specs.declared.sitd.Sitd.{Sitd}
 use Rattle.hc_iso.specs.declared.held.IsoTransaction.{IsoTransaction}
-use Rattle.hc_iso.specs.Sitd.{sitd_after, after_part, part_bytes, sitd_ask, sitd_with, sitd_out, sitd_in, sitd_transaction, in_after, after_complete, after_start, heard_by, marked}
+use Rattle.hc_iso.specs.Sitd.{sitd_after, after_part, part_bytes, sitd_ask, sitd_with, sitd_out, sitd_in, sitd_transaction, in_after, after_complete, after_start, heard_by}
 use Rattle.tt_pipeline.specs.Work.{asked_part}
 use Rattle.bus_wire.specs.Bus.{Bus, Fixed, transact_after}
 use Rattle.law_microframes.specs.time.SitdParts.{position_of, IsInParts}
 use Rattle.law_microframes.specs.translators.Parts.{EachOf, Lacks, key_asked}
 use Rattle.law_microframes.specs.translators.Turns.{pipeline_for}
 use Rattle.law_microframes.proofs.lemmas.translators.Parts.{part_of, still_left}
-use Rattle.law_microframes.proofs.lemmas.translators.SitdStarts.{out_ask, out_transaction}
+use Rattle.law_microframes.proofs.lemmas.translators.SitdStarts.{out_transaction}
 use Rattle.law_microframes.proofs.lemmas.translators.TurnsAsks.{begin_asks}
 use Rattle.law_microframes.proofs.lemmas.translators.TurnsWalk.{AsksAnother}
 

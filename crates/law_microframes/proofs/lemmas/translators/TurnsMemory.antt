@@ -1,9 +1,8 @@
 -- What an event of the controller leaves of the words of a driver's siTD: after it one of which no copy is in hand means the same entries as
 -- before, or as the copy that was in hand (EHCI 1.0, 3.4, 4.6 and 4.12.3).
-use Rattle.std.proofs.Common.{◌≡◌, ◌≢◌, ℕ, ◌+◌, ◌*◌, ◌/◌, ◌<◌, ◌⊎◌, Bool, true, false, List, slice_index, slice_get, Option, Some, None, option_map, refl, ap, sym, subst, ◌∙◌, ⊎_elim, inl, inr, arith, if◌then◌else◌}
+use Rattle.std.proofs.Common.{◌≡◌, ◌≢◌, ℕ, ◌+◌, ◌*◌, ◌/◌, ◌<◌, ◌⊎◌, Bool, true, false, List, slice_index, Some, option_map, refl, ap, sym, subst, ◌∙◌, ⊎_elim, inl, arith, if◌then◌else◌}
 use Rattle.std.specs.Prelude.{◌==◌, is_some}
 use Rattle.std.proofs.lemmas.Bool.{true≢false}
-use Rattle.std.proofs.lemmas.Option.{same_Some}
 use Rattle.law_microframes.proofs.Common.{words_are}
 use Rattle.hub_keys.specs.Keys.{key_of}
 use Rattle.hub_keys.specs.declared.key.Key.{Key}
@@ -25,19 +24,18 @@ use Rattle.hc_iso.specs.declared.held.IsoTransaction.{IsoTransaction}
 use Rattle.hc_iso.specs.Sitd.{moved_sitd, missed_sitd}
 use Rattle.drv_periodic_table.specs.Descriptors.{sitd_in}
 use Rattle.periodic_walk.specs.declared.state.Hand.TheVariants as hands
-use Rattle.hc_core.specs.declared.controller.MicroframePart.{MicroframePart}
 use Rattle.hc_core.specs.declared.controller.MicroframePart.TheVariants as parts
 use Rattle.hc_core.specs.Controller.{frame_place}
 use Rattle.tt_pipeline.specs.declared.entry.Entry.{Entry}
 use Rattle.hub_class.specs.HubContent.{HubContent}
 use Rattle.claims_driver.specs.Owners.{HasBlocks, runs_of_transfer, views_of}
 use Rattle.claims_base.specs.Controller.{opening_base}
-use Rattle.law_structures.specs.lent_structures.Structures.{Structure, SplitIsochronous, Structures, StructureSets, HoldsSplitIsochronous}
+use Rattle.law_structures.specs.lent_structures.Structures.{SplitIsochronous, Structures, StructureSets, HoldsSplitIsochronous}
 use Rattle.law_driver_ring.specs.Inventory.{IsLent, sort_of}
 use Rattle.law_ring.specs.walk_writes.Writes.{WritesLent}
 use Rattle.law_controller.proofs.lemmas.lent_writes.Controlling.{each_event_of_the_controller_writes_lent_words}
 use Rattle.law_controller.proofs.lemmas.aligned_copies.Controlling.{aligned_placed}
-use Rattle.law_frames.specs.FrameHand.{SitdCopy, FrameHand, Nothing, OfSitd, frame_held}
+use Rattle.law_frames.specs.FrameHand.{SitdCopy, Nothing, OfSitd, frame_held}
 use Rattle.law_frames.specs.Frame.{IsFrameWalk, IsCopiedSitd, IsInFrame}
 use Rattle.law_descriptors.specs.Described.{IsDescriptorLent, HasDescriptor, HasSitd}
 use Rattle.law_descriptors.specs.Both.{owns, both}

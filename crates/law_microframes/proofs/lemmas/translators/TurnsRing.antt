@@ -1,11 +1,8 @@
 -- An event of the ring's walk goes on with what is told of the isochronous OUTs below hubs: it starts none of them, and has none in hand
 -- (EHCI 1.0, 4.8 and 4.12.3; USB 2.0, 11.14).
-use Rattle.std.proofs.Common.{◌≡◌, ℕ, ◌*◌, Bool, true, false, List, Option, Some, None, refl, sym, ap, subst, ◌∙◌, inl, inr, ◌⊎◌, ⊎_elim}
+use Rattle.std.proofs.Common.{◌≡◌, ℕ, Bool, true, false, List, Option, Some, None, refl, sym, ap, subst, ◌∙◌, inl, inr, ◌⊎◌, ⊎_elim}
 use Rattle.law_microframes.proofs.Common.{ring_no}
-use Rattle.usb_base.specs.declared.packets.Ask.{Ask}
-use Rattle.usb_base.specs.declared.packets.DataPart.{DataPart}
 use Rattle.hub_keys.specs.declared.key.Key.{Key}
-use Rattle.link_words.specs.declared.kinds.Link.{Link}
 use Rattle.itd_sitd.specs.declared.sitd.Sitd.{Sitd}
 use Rattle.multi_tt.specs.Single.{is_buffered}
 use Rattle.hc_copy.specs.declared.held.Held.{Held}
@@ -16,15 +13,13 @@ use Rattle.async_walk.specs.declared.rows.WalkRow.{WalkRow}
 use Rattle.async_walk.specs.declared.rows.WalkRow.TheVariants as walks
 use Rattle.async_walk.specs.Rows.{WalkPlace, event_row, at_event}
 use Rattle.drv_periodic_table.specs.Descriptors.{sitd_in}
-use Rattle.periodic_walk.specs.declared.state.Hand.{Hand}
-use Rattle.periodic_walk.specs.Walk.{over_at}
 use Rattle.hc_core.specs.declared.controller.ControllerRow.{ControllerRow}
 use Rattle.hc_core.specs.declared.controller.ControllerRow.TheVariants as rows
 use Rattle.hc_core.specs.declared.controller.MicroframePart.TheVariants.{Periodic, Asynchronous}
 use Rattle.hc_core.specs.Controller.{entered, walk_place, walk_step}
 use Rattle.tt_pipeline.specs.declared.entry.Entry.{Entry}
 use Rattle.claims_base.specs.Controller.{Base}
-use Rattle.bus_wire.specs.Bus.{Bus, Fixed, transact_after}
+use Rattle.bus_wire.specs.Bus.{Bus, Fixed}
 use Rattle.bus_world.specs.World.{World, controller_parts, controller_row, controller_next, sent_by, sends_by, walk_by, turned_by, with_turned}
 use Rattle.claims_world.specs.Visits.{frame_in, visits_after}
 use Rattle.law_world.specs.memory.Mixed.{IsMixedWorld}

@@ -1,8 +1,7 @@
 -- At each moment of the run of a script that a text spells the translators hold what they hold, and it goes on so with the isochronous OUTs
 -- below hubs: each of the two is kept by the other. So the parts of an OUT come in turn.
-use Rattle.std.proofs.Common.{◌≡◌, ℕ, zero, suc, ◌%◌, true, false, List, [], ◌∷◌, length, Some, refl, ap, sym, subst, ◌∙◌}
+use Rattle.std.proofs.Common.{◌≡◌, ℕ, zero, suc, ◌%◌, List, [], ◌∷◌, refl, ap, sym, subst, ◌∙◌}
 use Rattle.usb_base.specs.declared.commands.Cmd.{Cmd}
-use Rattle.usb_base.specs.declared.packets.DataPart.{DataPart}
 use Rattle.usb_base.specs.declared.packets.DataPart.TheVariants as parts
 use Rattle.script_types.specs.declared.scripts.Event.{Event}
 use Rattle.script_types.specs.declared.scripts.Event.TheVariants as events
@@ -12,7 +11,6 @@ use Rattle.script_fits.proofs.Texts.{spelled_fits}
 use Rattle.law_scripts.proofs.lemmas.script_bytes.Texts.{a_text_spells_bytes}
 use Rattle.hub_keys.specs.Keys.{key_of}
 use Rattle.hub_keys.specs.declared.key.Key.{Key}
-use Rattle.hc_iso.specs.declared.held.HeldSitd.{HeldSitd}
 use Rattle.hc_iso.specs.declared.held.IsoTransaction.{IsoTransaction}
 use Rattle.hc_iso.specs.Sitd.{sitd_transaction}
 use Rattle.tt_pipeline.specs.Work.{asked_part}
@@ -70,7 +68,7 @@ use Rattle.law_microframes.proofs.lemmas.translators.TurnsFrame.{FirstsLack, IsS
 use Rattle.law_microframes.proofs.lemmas.translators.TurnsHeld.{frame_goes_on}
 use Rattle.law_microframes.proofs.lemmas.translators.TurnsRing.{ring_goes_on}
 use Rattle.law_microframes.proofs.lemmas.translators.Watching.{IsKept}
-use Rattle.law_microframes.proofs.lemmas.translators.Worlds.{controller_keeps_up, driver_keeps_up, command_keeps_up, hubs_open, plans_open}
+use Rattle.law_microframes.proofs.lemmas.translators.Worlds.{controller_keeps_up, driver_keeps_up, command_keeps_up, plans_open}
 
 -- what is known at a moment
 record IsAtMoment (start w : World) (vs : List ℕ) : Type 0 where
@@ -247,3 +245,6 @@ module _ (text : List ℕ) (s : Script) (spelled : Spells text s) where
   texts_lack k =
       let set = set_at k in
       outs_are_lacked (began s k) (moment s k).world (visited s k) set.holds.within.began set.names (both_hold k).outs
+
+  pub texts_hold : (k : ℕ) → WorldKeeps HoldsStuffed (moment s k).world (gaps s k)
+  texts_hold k = (both_hold k).keeps

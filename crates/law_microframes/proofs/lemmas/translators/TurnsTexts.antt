@@ -10,7 +10,7 @@ use Rattle.claims_translators.specs.KeepsUp.{AllKeepUp, AllKeepUpStuffed}
 use Rattle.claims_translators.specs.Answered.{AllAnswered}
 use Rattle.claims_translators.specs.Pipelines.{StuffsAtMost, EachPipeline}
 use Rattle.claims_translators.specs.Gaps.{gaps}
-use Rattle.law_microframes.specs.translators.Laws.{AlongRuns, AlongTexts, AlongPlainTexts}
+use Rattle.law_microframes.specs.translators.Laws.{AlongRuns, TextsKeepTranslators}
 use Rattle.law_microframes.proofs.lemmas.translators.Promises.{keep_up, answer_in_time, stuffed_keep_up, stuffed_answer_in_time}
 use Rattle.law_microframes.proofs.lemmas.translators.SitdFollowing.{sitds_follow}
 use Rattle.law_microframes.proofs.lemmas.translators.Starting.{moment_known}
@@ -22,16 +22,10 @@ along_texts : (most : ℕ) (P : Plan → ℕ → List Watched → Type 0) → Al
 along_texts most P runs text s spelled few k =
     runs s few (λ j. moment_known text s spelled j (sitds_follow text s spelled j (texts_lack text s spelled j))) k
 
-pub texts_keep_up : AlongPlainTexts AllKeepUp
-texts_keep_up = along_texts 0 AllKeepUp keep_up
-
-pub texts_answer_in_time : AlongPlainTexts (AllAnswered 1)
-texts_answer_in_time = along_texts 0 (AllAnswered 1) answer_in_time
-
-pub stuffed_texts_keep_up : AlongTexts AllKeepUpStuffed
-stuffed_texts_keep_up text s spelled =
-    along_texts 6 AllKeepUpStuffed stuffed_keep_up text s spelled (texts_have_few_stuffed_bits text s spelled)
-
-pub stuffed_texts_answer : AlongTexts (AllAnswered 2)
-stuffed_texts_answer text s spelled =
-    along_texts 6 (AllAnswered 2) stuffed_answer_in_time text s spelled (texts_have_few_stuffed_bits text s spelled)
+pub texts_keep_translators : TextsKeepTranslators
+texts_keep_translators text s spelled = record {
+  work = λ few. along_texts 0 AllKeepUp keep_up text s spelled few;
+  answers = λ few. along_texts 0 (AllAnswered 1) answer_in_time text s spelled few;
+  stuffed_work = along_texts 6 AllKeepUpStuffed stuffed_keep_up text s spelled (texts_have_few_stuffed_bits text s spelled);
+  stuffed_answers = along_texts 6 (AllAnswered 2) stuffed_answer_in_time text s spelled (texts_have_few_stuffed_bits text s spelled);
+}

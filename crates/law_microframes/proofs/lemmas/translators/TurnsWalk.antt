@@ -1,6 +1,6 @@
 -- What an event of the walk of the frames does of siTDs and of the bus (EHCI 1.0, 4.6 and 4.12): it leaves the bus, and reads a siTD or has
 -- none in hand; it makes a transaction that isn't one of a siTD; or it makes that of the siTD in hand.
-use Rattle.std.proofs.Common.{◌≡◌, ℕ, Bool, true, false, List, [], Option, Some, None, refl, sym, ap, subst, ◌∙◌, if◌then◌else◌}
+use Rattle.std.proofs.Common.{◌≡◌, ℕ, Bool, true, false, List, Option, Some, None, refl, sym, ap, subst, ◌∙◌, if◌then◌else◌}
 use Rattle.std.specs.Prelude.{nat_lt}
 use Rattle.usb_base.specs.declared.packets.Ask.{Ask}
 use Rattle.usb_base.specs.declared.packets.DataPart.{DataPart}
@@ -43,7 +43,7 @@ use Rattle.periodic_walk.specs.Queue.{queue_row, queue_read, queue_effect, misse
 use Rattle.periodic_walk.specs.Queue as of_queue
 use Rattle.periodic_walk.specs.Itd.{itd_row, itd_effect}
 use Rattle.periodic_walk.specs.Itd as of_itd
-use Rattle.periodic_walk.specs.Sitd.{sitd_row, sitd_effect}
+use Rattle.periodic_walk.specs.Sitd.{sitd_effect}
 use Rattle.periodic_walk.specs.Sitd as of_sitd
 use Rattle.periodic_walk.specs.Walk.{Walk}
 use Rattle.periodic_walk.specs.Rows.{step_at, effect_at, effect_of}

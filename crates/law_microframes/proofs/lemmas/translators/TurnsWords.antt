@@ -1,7 +1,7 @@
 -- What an event of the controller leaves of a siTD in memory (EHCI 1.0, 4.6 and 4.12.3): one of which no copy is in hand is as it was, or
 -- as the copy was that isn't in hand any more, but for its link and its place in the buffer; one of which a microframe was missed isn't
 -- active.
-use Rattle.std.proofs.Common.{◌≡◌, ◌≢◌, ℕ, Bool, true, false, List, Option, Some, None, refl, ap, sym, subst, ◌∙◌, ⊎_elim}
+use Rattle.std.proofs.Common.{◌≡◌, ◌≢◌, ℕ, Bool, false, List, Option, Some, None, refl, ap, sym, subst, ◌∙◌, ⊎_elim}
 use Rattle.std.proofs.lemmas.Bool.{cases_eq}
 use Rattle.std.proofs.lemmas.Option.{same_Some}
 use Rattle.usb_base.specs.declared.packets.Ask.{Ask}
