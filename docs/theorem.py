@@ -56,7 +56,8 @@ SAYS = {
     "slots": "Once the walk of the frames is over in a microframe that isn't held, where no more than 4 microseconds went for complete-splits made again: the iTDs to which it came with the slot of this microframe active are those that were "
              "written back in it.",
     "slots_at_begin": "Once the walk of the frames is over in such a microframe: each slot of an iTD that was active as the microframe began, "
-                      "where the links of its frame led to the iTD then and do so still, is written back in it.",
+                      "where the links of its frame led to the iTD then, is written back in it, unless a cancel of its endpoint was accepted since; "
+                      "and so is that of a cancelled endpoint's iTD to which they lead at each moment of the microframe nevertheless.",
     "goes_on": "At each moment: a bulk or interrupt endpoint that goes on, whose queue head isn't halted, and which has a transfer that is stored and of which a qTD is still active, has a queue head whose overlay is active or goes on to an "
             "active qTD; and so has its copy in the hand of either walk before its transaction. So no such queue head is passed for want of work.",
     "streams": "Whatever a script opens and cancels: at each moment, and after the run, the bytes told of each bulk and interrupt IN endpoint at high speed that was opened begin its stream, each once and in order; those told of each such OUT "

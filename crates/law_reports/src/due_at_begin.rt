@@ -2,7 +2,7 @@
 //! USB 2.0, 5.7.4 and 8.6).
 //!
 //! - `due`: What was due of a high-speed interrupt endpoint as its microframe began is done once the walk of the frames is over.
-//! - `slots`: Each slot of an isochronous transfer descriptor that was due as its microframe began is done too, while it stays linked.
+//! - `slots`: Each slot of an isochronous transfer descriptor that was due as its microframe began is done too.
 //! - `slots_worked`: Worked rows of a microphone.
 //! - `worked`: Worked rows of a keyboard.
 //!

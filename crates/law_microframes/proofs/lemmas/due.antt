@@ -5,6 +5,8 @@ pub mod Fields
 pub mod Turning
 pub mod Held
 pub mod Linked
+pub mod LinkedOnce
+pub mod OnceStays
 pub mod FetchedKinds
 pub mod Fetched
 pub mod Aside

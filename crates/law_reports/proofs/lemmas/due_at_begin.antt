@@ -13,5 +13,6 @@ pub mod Moments
 pub mod Own
 pub mod Sampled
 pub mod SlotAhead
+pub mod SlotThere
 pub mod SlotMoments
 pub mod SlotSampled

@@ -1,7 +1,7 @@
 -- The law of what is due as its microframe begins.
 --     TextsDoWhatIsDueAtBegin     of each script that a text spells: what was due as the microframe began is done once the walk of the
 --                                 frames is over
---     TextsDoSlotsAtBegin         .. each slot of an iTD that was due as the microframe began is done, while it stays linked
+--     TextsDoSlotsAtBegin         .. so is each slot of an iTD that was due as the microframe began
 use Rattle.std.specs.Prelude.{ℕ, List}
 use Rattle.script_types.specs.declared.scripts.Script.{Script}
 use Rattle.script_text.specs.Faults.{Spells}

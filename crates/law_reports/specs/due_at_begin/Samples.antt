@@ -1,8 +1,13 @@
--- A world for worked rows: right after the Begin of the keyboard's microframe a cancel of it is accepted (EHCI 1.0, 4.6).
---     cancelled_keyboard
+-- Worlds for worked rows: right after the Begin of its microframe a cancel of a keyboard, or of a microphone, is accepted (EHCI 1.0, 4.6).
+--     cancelled_keyboard, cancelled_microphone
 use Rattle.usb_base.specs.declared.commands.Cmd.TheVariants.{Cancel}
 use Rattle.bus_world.specs.World.{World, commanded}
+use Rattle.law_world.specs.memory.MicrophoneSamples.{microphone}
 use Rattle.law_microframes.specs.due.Samples.{keyboard, keyed_at}
+use Rattle.law_microframes.specs.due.slots.Samples.{due_at}
 
 abbrev pub cancelled_keyboard : World
 cancelled_keyboard = commanded (keyed_at 22) 9 (Cancel keyboard.name)
+
+abbrev pub cancelled_microphone : World
+cancelled_microphone = commanded (due_at 1) 9 (Cancel microphone.name)

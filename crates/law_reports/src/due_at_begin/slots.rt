@@ -2,8 +2,9 @@
 ghost use Rattle.law_reports.specs.due_at_begin.Laws.{TextsDoSlotsAtBegin};
 
 /// Where the walk of the frames is over in a microframe that isn't held, each iTD that was linked in the frame as the microframe began,
-/// with the slot of the microframe active then, was written back in it, where it stays linked: the walk comes to it, and nobody clears the
-/// slot before, whatever the walk comes to before, and whatever the driver does.
+/// with the slot of the microframe active then, was written back in it, unless its endpoint was cancelled since: the walk comes to it,
+/// nobody unlinks it and nobody clears the slot before, whatever the walk comes to before, and whatever the driver does. So it is of a
+/// cancelled endpoint's, while it stays linked nevertheless.
 pub fn texts_do_slots_at_begin()
     ensures { TextsDoSlotsAtBegin }
 {}

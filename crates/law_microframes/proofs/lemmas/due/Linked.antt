@@ -1,7 +1,7 @@
--- The links of each frame of a placed interrupt endpoint lead to its queue head, while others are linked and unlinked (EHCI 1.0, 3.1, 3.6.1
--- and 4.6).
-use Rattle.std.proofs.Common.{◌≡◌, ◌≢◌, ℕ, ◌+◌, ◌*◌, ◌/◌, ◌<◌, Bool, true, false, if◌then◌else◌, List, [], ◌∷◌, Option, Some, None}
-use Rattle.std.proofs.Common.{⊎_elim, ap, refl, sym, subst, ◌∙◌}
+-- The links of each frame of a member lead to it, while others are linked and unlinked, and while it is itself, where the store that links
+-- it there is made, or the one that unlinks it isn't yet (EHCI 1.0, 3.1, 3.6.1 and 4.6).
+use Rattle.std.proofs.Common.{◌≡◌, ◌≢◌, ℕ, ◌+◌, ◌*◌, ◌/◌, ◌<◌, Bool, true, false, if◌then◌else◌, List, [], ◌∷◌, Option, Some, None, ⊎_elim}
+use Rattle.std.proofs.Common.{ap, refl, sym, subst, ◌∙◌, not}
 use Rattle.std.specs.List.{AllByRecursion, list_any}
 use Rattle.std.proofs.lemmas.Bool.{false≢true, cases_Bool, eqb-true, or_cases}
 use Rattle.law_descriptors.proofs.Common.{others_led}
@@ -58,6 +58,19 @@ module _ (s : Schedule) (f : ℕ) (x : Member) (kept : IsKept s) (on : is_linked
     any = in_chain s f x kept (on, stands);
   }
 
+  -- what links it has made its store in the frame, what unlinks it hasn't
+  module _ (v : Work) (own : is_made s v.member (made_of s v) f ≡ not v.removes) where
+    own_by : (made removes : Bool) → made ≡ not removes
+        → HasIn s x (if made then chain (if removes then without_member s v.member else s) f else chain
+        (if removes then s else without_member s v.member) f)
+    own_by true true is = absurd (false≢true (sym is))
+    own_by true false is = whole
+    own_by false true is = whole
+    own_by false false is = absurd (false≢true is)
+
+    shown_own : HasIn s x (shown s v f)
+    shown_own = own_by (is_made s v.member (made_of s v) f) v.removes own
+
   module _ (v : Work) (other : is_the v.member x ≡ false) where
     fewer : HasIn s x (chain (without_member s v.member) f)
     fewer = record {
@@ -99,18 +112,24 @@ module _ (m : Mem) (list : ℕ) (s : Schedule) (x : Member)
 -- ---- a frame
 
 module _ (m : Mem) (d : DriverContent) (frames : HasFrames m d) (x : Member) (on : is_linked d.periodic.list.members.schedule x ≡ true)
-    (idle : (v : Work) → d.periodic.list.work ≡ Some v → v.member ≢ x) where
-  -- another member has another name
-  other_name : (v : Work) → v.member ≢ x → is_linked d.periodic.list.members.schedule v.member ≡ true → is_the v.member x ≡ false
-  other_name v differs there =
-      ⊎_elim
-      (λ (same : is_the v.member x ≡ true).
-      absurd (differs (frames.spread.once v.member x there on (ap (λ (i : ℕ). i / 32) (sym (eqb-true (id_of x) (id_of v.member) same))))))
-      (λ (other : is_the v.member x ≡ false). other) (cases_Bool (is_the v.member x))
+  where
+    -- members of one name are one
+    same_name : (v : Work) → is_linked d.periodic.list.members.schedule v.member ≡ true → is_the v.member x ≡ true → v.member ≡ x
+    same_name v there same =
+        frames.spread.once v.member x there on (ap (λ (i : ℕ). i / 32) (sym (eqb-true (id_of x) (id_of v.member) same)))
+
+    other_name : (v : Work) → v.member ≢ x → is_linked d.periodic.list.members.schedule v.member ≡ true → is_the v.member x ≡ false
+    other_name v differs there =
+        ⊎_elim (λ (same : is_the v.member x ≡ true). absurd (differs (same_name v there same)))
+        (λ (other : is_the v.member x ≡ false). other) (cases_Bool (is_the v.member x))
+
+-- where x itself is linked the store of the frame is made, and where it is unlinked it isn't yet
+abbrev pub IsShownIn : DriverContent → ℕ → Member → Type 0
+IsShownIn d f x = (v : Work) → d.periodic.list.work ≡ Some v → v.member ≡ x
+    → is_made d.periodic.list.members.schedule v.member (made_of d.periodic.list.members.schedule v) f ≡ not v.removes
 
 module _ (m : Mem) (d : DriverContent) (frames : HasFrames m d) (f : ℕ) (low : f < 1024) (x : Member)
-    (on : is_linked d.periodic.list.members.schedule x ≡ true) (stands : stands_in f x ≡ true)
-    (idle : (v : Work) → d.periodic.list.work ≡ Some v → v.member ≢ x) where
+    (on : is_linked d.periodic.list.members.schedule x ≡ true) (stands : stands_in f x ≡ true) (shows : IsShownIn d f x) where
   abbrev s : Schedule
   s = d.periodic.list.members.schedule
 
@@ -123,13 +142,18 @@ module _ (m : Mem) (d : DriverContent) (frames : HasFrames m d) (f : ℕ) (low :
       (record { next = Some y; stands = (there, (first_frame_is y (member_of_kept s y kept there)).1); word = refl }))
       ∙ structure_name d.periodic y
 
+  has_by : (v : Work) (b : Bool) → d.periodic.list.work ≡ Some v → is_linked s v.member ≡ true → is_the v.member x ≡ b
+      → HasIn s x (shown s v f)
+  has_by v true is there same = shown_own s f x kept on stands v (shows v is (same_name m d frames x on v there same))
+  has_by v false is there other = shown_has s f x kept on stands v other
+
   by_work : (o : Option Work) → d.periodic.list.work ≡ o → HasMember s o → StandsBy d.periodic.list.list s o (word_at m)
       → IsLedTo m (begins x) (next_of m (address_of d.periodic.list.list (Element f)))
   by_work None is member words =
       let has = whole s f x kept on stands in
       led_along m d.periodic.list.list s x named (Element f) (chain s f) has.all has.any (words f low)
   by_work (Some v) is member words =
-      let has = shown_has s f x kept on stands v (other_name m d frames x on idle v (idle v is) member.1) in
+      let has = has_by v (is_the v.member x) is member.1 refl in
       led_along m d.periodic.list.list s x named (Element f) (shown s v f) has.all has.any
       (frames_while_under_way d.periodic.list.list s v (word_at m) f kept frames.spread member.0 member.1 words low)
 
@@ -138,17 +162,21 @@ module _ (m : Mem) (d : DriverContent) (frames : HasFrames m d) (f : ℕ) (low :
 
 -- ---- in a world
 
-pub in_chain_of : (s : Standing) (w : World) (f : ℕ) (x : Member) → IsMixedAt s w → f < 1024
-    → is_linked w.driver.periodic.list.members.schedule x ≡ true → stands_in f x ≡ true
-    → ((v : Work) → w.driver.periodic.list.work ≡ Some v → v.member ≢ x) → IsInChain w f (begins x)
-in_chain_of s w f x k low on stands idle =
+pub in_chain_shown : (s : Standing) (w : World) (f : ℕ) (x : Member) → IsMixedAt s w → f < 1024
+    → is_linked w.driver.periodic.list.members.schedule x ≡ true → stands_in f x ≡ true → IsShownIn w.driver f x → IsInChain w f (begins x)
+in_chain_shown s w f x k low on stands shows =
     let frames : HasFrames w.memory w.driver = now_has_frames opening_base s.member s.recent s.descs s.parts s.hand s.frame
     (controller_parts w) w.driver k.now in
     let base : w.registers.periodic_list_base ≡ 32 * w.driver.periodic.list.list = ap
     (λ (x : Base). x.periodic_list_base) k.now.framed.runs.ring.registers
     ∙ begins_there opening_base s.member s.recent s.descs s.parts s.hand s.frame (controller_parts w) w.driver k.now in
     subst (λ (b : ℕ). IsLedTo w.memory (begins x) (next_of w.memory (b + 4 * f))) (sym base)
-    (frame_leads w.memory w.driver frames f low x on stands idle)
+    (frame_leads w.memory w.driver frames f low x on stands shows)
+
+pub in_chain_of : (s : Standing) (w : World) (f : ℕ) (x : Member) → IsMixedAt s w → f < 1024
+    → is_linked w.driver.periodic.list.members.schedule x ≡ true → stands_in f x ≡ true
+    → ((v : Work) → w.driver.periodic.list.work ≡ Some v → v.member ≢ x) → IsInChain w f (begins x)
+in_chain_of s w f x k low on stands idle = in_chain_shown s w f x k low on stands (λ v is same. absurd (idle v is same))
 
 -- ---- it is met as a queue head
 
@@ -159,7 +187,7 @@ module _ (m : Mem) (d : DriverContent) (frames : HasFrames m d) (x : Member) (on
   is_led_by None is member = on
   is_led_by (Some v) is member =
       others_led d.periodic.list.members.schedule v x (is_led v)
-      (other_name m d frames x on idle v (idle v is) member.1) on
+      (other_name m d frames x on v (idle v is) member.1) on
 
   pub is_led_to : is_linked (led d) x ≡ true
   is_led_to = is_led_by d.periodic.list.work refl frames.list.order.member

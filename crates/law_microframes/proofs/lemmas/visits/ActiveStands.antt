@@ -58,7 +58,7 @@ active_is_framed s w e f n k a = lent_framed w.driver w.memory a.number a.transf
 
 -- ---- whose a block is
 
-same_run : (d : DriverContent) (has : HasOwners d) (t u n : ℕ) (y z : Transfer) → slice_get d.transfers t ≡ Some y → slice_get d.transfers u ≡ Some z → is_descriptor y.sort ≡ true → is_descriptor z.sort ≡ true
+pub same_run : (d : DriverContent) (has : HasOwners d) (t u n : ℕ) (y z : Transfer) → slice_get d.transfers t ≡ Some y → slice_get d.transfers u ≡ Some z → is_descriptor y.sort ≡ true → is_descriptor z.sort ≡ true
     → y.released ≡ false → z.released ≡ false → n ≡ 32 * y.first → n ≡ 32 * z.first → y ≡ z
 same_run d has t u n y z here there sort_y sort_z held_y held_z at_y at_z =
     let one = (has.owned.each.described t (runs_of_transfer y) (ap (option_map runs_of_transfer) here) sort_y held_y).descriptor in

@@ -86,15 +86,15 @@ module _ (w : World) (k : IsMixedWorld w) (e q : ℕ) (p : Placement) (i : IsInI
 
 -- ---- an event of the driver
 
-module _ (w : World) (k : IsMixedWorld w) (e q : ℕ) (p : Placement) where
-  pub driver_uncancelled : IsUncancelled (driver_next w).driver e → IsUncancelled w.driver e
-  driver_uncancelled off x here =
-      let row = driver_row (driver_parts w) in
-      let at : IsSeenIn (driver_next w).driver.endpoints e x =
-      seen_there w.driver.endpoints (driver_next w).driver.endpoints e x (row_seen e row (driver_parts w)) here in
-      step_back w.driver.endpoints (driver_next w).driver.endpoints (row_ends row (driver_parts w)) e x at.endpoint here at.here
-      (off at.endpoint at.here)
+pub driver_uncancelled : (w : World) (e : ℕ) → IsUncancelled (driver_next w).driver e → IsUncancelled w.driver e
+driver_uncancelled w e off x here =
+    let row = driver_row (driver_parts w) in
+    let at : IsSeenIn (driver_next w).driver.endpoints e x =
+    seen_there w.driver.endpoints (driver_next w).driver.endpoints e x (row_seen e row (driver_parts w)) here in
+    step_back w.driver.endpoints (driver_next w).driver.endpoints (row_ends row (driver_parts w)) e x at.endpoint here at.here
+    (off at.endpoint at.here)
 
+module _ (w : World) (k : IsMixedWorld w) (e q : ℕ) (p : Placement) where
   pub driver_in_frames : (l : IsMixedWorld (driver_next w)) (i : IsInItsFrames w.driver e q p) → IsUncancelled (driver_next w).driver e
       → IsStillIn (driver_next w) e q p i.endpoint.desc
   driver_in_frames l i off =
@@ -193,7 +193,7 @@ module _ (w : World) (k : IsMixedWorld w) (n : ℕ) (name : EpName) (e q : ℕ) 
       with_cancel w.driver why.number why.endpoint (endpoint_members w.driver why.number why.endpoint why.placement) in
       no_chain (is_none g.periodic.list.work) g why.number refl (sym (ap (λ (f : Offered). f.driver.command) why.is) ∙ chain)
 
-module _ (w : World) (k : IsMixedWorld w) (n : ℕ) (cmd : Cmd) (e q : ℕ) (p : Placement) where
+module _ (w : World) (n : ℕ) (cmd : Cmd) (e : ℕ) where
   uncancelled_by : (r : Result Offered OfferError) → offered w.driver w.memory cmd ≡ r
       → IsUncancelled (commanded_by w n (name_in cmd) r).driver e → IsUncancelled w.driver e
   uncancelled_by (Err why) is off x here = off x here
@@ -205,6 +205,7 @@ module _ (w : World) (k : IsMixedWorld w) (n : ℕ) (cmd : Cmd) (e q : ℕ) (p :
   pub command_uncancelled : IsUncancelled (commanded w n cmd).driver e → IsUncancelled w.driver e
   command_uncancelled off = uncancelled_by (offered w.driver w.memory cmd) refl off
 
+module _ (w : World) (k : IsMixedWorld w) (n : ℕ) (cmd : Cmd) (e q : ℕ) (p : Placement) where
   chain_off_by : (i : IsInItsFrames w.driver e q p) (r : Result Offered OfferError) → offered w.driver w.memory cmd ≡ r
       → IsMixedWorld (commanded_by w n (name_in cmd) r) → (z : Endpoint)
       → slice_get (commanded_by w n (name_in cmd) r).driver.endpoints e ≡ Some z → z.gone ≡ false → z.desc.kind ≡ Interrupt → z.queue ≡ q

@@ -169,7 +169,7 @@ module _ (fixed : Fixed) (x : Sides) (b w : World) (t : SoFar) (k : IsKnown fixe
       → LeavesControllers (controller_parts w) (driver_next w).memory → AreWaiting fixed b (driver_next w) t
   by_driver l heads_then leaves =
       aside_goes (driver_next w) l heads_then (record { control = refl; bus = refl; leaves = leaves })
-      (λ e off. driver_uncancelled w k.mixed e 0 (record { period = 0; phase = 0; smask = 0; cmask = 0 }) off)
+      (λ e off. driver_uncancelled w e off)
       (λ e q p i off. driver_in_frames w k.mixed e q p l i off)
 
   by_command : (n : ℕ) (cmd : Cmd) → IsMixedWorld (commanded w n cmd)
@@ -178,7 +178,7 @@ module _ (fixed : Fixed) (x : Sides) (b w : World) (t : SoFar) (k : IsKnown fixe
   by_command n cmd l heads_then leaves =
       aside_goes (commanded w n cmd) l heads_then
       (record { control = command_control w n cmd; bus = command_bus w n cmd; leaves = leaves })
-      (λ e off. command_uncancelled w k.mixed n cmd e 0 (record { period = 0; phase = 0; smask = 0; cmask = 0 }) off)
+      (λ e off. command_uncancelled w n cmd e off)
       (λ e q p i off. command_in_frames w k.mixed n cmd e q p l i off)
 
   -- ---- one more

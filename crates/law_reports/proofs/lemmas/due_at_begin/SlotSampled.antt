@@ -1,5 +1,5 @@
 -- The microphone's slot as its microframe begins.
-use Rattle.std.proofs.Common.{◌≡◌, Some, false, ap, refl, sym, ◌∙◌, arith}
+use Rattle.std.proofs.Common.{◌≡◌, Some, false, slice_get, ap, refl, sym, ◌∙◌, arith, inl}
 use Rattle.std.proofs.lemmas.Bool.{true≢false}
 use Rattle.std.proofs.lemmas.Option.{same_Some}
 use Rattle.word_mem.specs.Memory.{filled}
@@ -28,8 +28,13 @@ use Rattle.bus_world.specs.World.{controller_row}
 use Rattle.claims_world.specs.Reach.{ItdAt}
 use Rattle.claims_world.specs.Reach.Reaches.{element}
 use Rattle.claims_world.specs.Visits.{is_there, frame_in}
-use Rattle.law_microframes.specs.due.slots.Samples.{due_at}
-use Rattle.claims_world.specs.SlotsAtBegin.{IsSlotDueAtBegin}
+use Rattle.drv_table.specs.declared.content.Endpoint.{Endpoint}
+use Rattle.claims_world.specs.Carried.{carried_from}
+use Rattle.claims_world.specs.DueAtBegin.{IsUncancelled}
+use Rattle.claims_world.specs.Visits.{HasVisited}
+use Rattle.law_microframes.specs.due.slots.Samples.{due_at, due_slots}
+use Rattle.claims_world.specs.SlotsAtBegin.{IsItdOf, IsSlotDueAtBegin}
+use Rattle.law_reports.specs.due_at_begin.Samples.{cancelled_microphone}
 
 pub slot_begins : controller_row (due_at 0) ≡ Begin
 unfolding ticks lowest_run filled words_in with_words_in store_words lend_runs qh_words all_descriptors with_frames
@@ -62,3 +67,36 @@ its_slot v read =
 
 pub done_isnt_due : IsSlotDueAtBegin (due_at 4) 4160 → ⊥
 done_isnt_due d = true≢false (sym d.active ∙ its_slot d.itd d.read)
+
+pub slot_is_its_own : IsItdOf (due_at 1).driver 0 4160
+unfolding ticks lowest_run filled words_in with_words_in store_words lend_runs qh_words all_descriptors with_frames
+    linked_descriptors itd_words itd_bad itd_at itd_read slot_word slot_at link_word link_read first_bad_bit slots_before predecessors
+    frames word_after before_the behind_the fetched_itd after_in itd_written places all_reached stored
+slot_is_its_own = record { number = 0; transfer = _; here = refl; sort = refl; held = refl; at = refl; endpoint = refl }
+
+pub slot_isnt_done_yet : HasVisited 4160 (due_slots 3).done → ⊥
+unfolding ticks lowest_run filled words_in with_words_in store_words lend_runs qh_words all_descriptors with_frames
+    linked_descriptors itd_words itd_bad itd_at itd_read slot_word slot_at link_word link_read first_bad_bit slots_before predecessors
+    frames word_after before_the behind_the fetched_itd after_in itd_written places all_reached stored carried_from
+slot_isnt_done_yet was = was
+
+pub slot_is_done_then : HasVisited 4160 (due_slots 4).done
+unfolding ticks lowest_run filled words_in with_words_in store_words lend_runs qh_words all_descriptors with_frames
+    linked_descriptors itd_words itd_bad itd_at itd_read slot_word slot_at link_word link_read first_bad_bit slots_before predecessors
+    frames word_after before_the behind_the fetched_itd after_in itd_written places all_reached stored carried_from
+slot_is_done_then = inl refl
+
+its_endpoint : (x : Endpoint) → slice_get (due_at 4).driver.endpoints 0 ≡ Some x → x.cancelled ≡ false
+unfolding ticks lowest_run filled words_in with_words_in store_words lend_runs qh_words all_descriptors with_frames
+    linked_descriptors itd_words itd_bad itd_at itd_read slot_word slot_at link_word link_read first_bad_bit slots_before predecessors
+    frames word_after before_the behind_the fetched_itd after_in itd_written places all_reached stored
+its_endpoint x here = ap (λ (y : Endpoint). y.cancelled) (sym (same_Some _ x here))
+
+pub microphone_is_kept : IsUncancelled (due_at 4).driver 0
+microphone_is_kept = its_endpoint
+
+pub cancelled_isnt_kept : IsUncancelled cancelled_microphone.driver 0 → ⊥
+unfolding ticks lowest_run filled words_in with_words_in store_words lend_runs qh_words all_descriptors with_frames
+    linked_descriptors itd_words itd_bad itd_at itd_read slot_word slot_at link_word link_read first_bad_bit slots_before predecessors
+    frames word_after before_the behind_the fetched_itd after_in itd_written places all_reached stored
+cancelled_isnt_kept kept = true≢false (kept _ refl)

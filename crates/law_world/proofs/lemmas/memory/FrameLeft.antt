@@ -107,6 +107,12 @@ next_members q =
     either_if (λ (r : PeriodicContent). r.list.members ≡ q.list.members) (is_none q.list.work) (with_first true q q.queued) q
     (λ e. first_members q q.queued) (λ e. refl)
 
+-- why a member is unlinked: the unfinished command does it, or it is the first of the descriptors that were harvested
+pub data IsUnlinkedFor (d : DriverContent) (work : Work) : Type 0 where
+  by_command : d.periodic.list.work ≡ Some work → IsUnlinkedFor d work
+  once_harvested : (t : ℕ) (y : Transfer) → slice_get d.periodic.unlinks 0 ≡ Some t → slice_get d.transfers t ≡ Some y
+      → work.member ≡ descriptor_member d.periodic.notes y.first → IsUnlinkedFor d work
+
 module _ (s : Standing) (w : World) (k : IsMixedAt s w) (x : Member) (on : is_linked (led w.driver) x ≡ true)
     (out : is_linked (led (driver_next w).driver) x ≡ false) where
   abbrev p : Parts
@@ -142,6 +148,7 @@ module _ (s : Standing) (w : World) (k : IsMixedAt s w) (x : Member) (on : is_li
   pub record IsLast : Type 0 where
     pub work : Work
     pub leaves : IsLeftOut w.driver.periodic.list work x
+    pub cause : IsUnlinkedFor w.driver work
     pub way : is_linked w.driver.periodic.list.members.schedule work.member ≡ true
     pub begun : Begun w.driver.periodic.list.list w.driver.periodic.list.members.schedule work (word_at w.memory)
     pub led_then : led (driver_next w).driver ≡ without_member w.driver.periodic.list.members.schedule work.member
@@ -181,6 +188,7 @@ module _ (s : Standing) (w : World) (k : IsMixedAt s w) (x : Member) (on : is_li
     of_link = record {
       work = n.work;
       leaves = leaves_it;
+      cause = by_command n.under_way;
       way = way_by schedule list.work n.work n.under_way frames.list.order.member;
       begun = subst (λ (o : Option Work). StandsBy list.list schedule o (word_at m)) n.under_way frames.list.words;
       led_then = led_next ∙ led_out list n.work n.under_way leaves_it.last leaves_it.removes;
@@ -224,9 +232,9 @@ module _ (s : Standing) (w : World) (k : IsMixedAt s w) (x : Member) (on : is_li
     none_begun : w.driver.periodic.list.work ≡ None
     none_begun = (subst (IsUnderWay d) unlink_due.idle frames.listed.way).work
 
-    of_removing : (c : Descriptor) → c.frame < 1024 → may_unlink w.driver.periodic.list (Once c) ≡ true
-        → leaving (unlinking w.driver.periodic.list (Once c)) → IsLast
-    of_removing c small may old =
+    of_removing : (c : Descriptor) → Once c ≡ descriptor_member w.driver.periodic.notes y.first → c.frame < 1024
+        → may_unlink w.driver.periodic.list (Once c) ≡ true → leaving (unlinking w.driver.periodic.list (Once c)) → IsLast
+    of_removing c own small may old =
         let r : Periodic = removing list (Once c) in
         let v : Work = begun_work (Once c) true in
         let eq : unlinking list (Once c) ≡ r = ap (λ (b : Bool). if b then removing list (Once c) else list) may in
@@ -243,6 +251,7 @@ module _ (s : Standing) (w : World) (k : IsMixedAt s w) (x : Member) (on : is_li
         record {
           work = v;
           leaves = record { removes = refl; last = o.last; is = o.is };
+          cause = once_harvested t y unlink_due.first there own;
           way = linked_too;
           begun = remove_stands list (Once c) (word_at m) kept small linked_too none_begun frames.list.words;
           led_then = after.0 ∙ led_out r v refl o.last refl;
@@ -260,7 +269,7 @@ module _ (s : Standing) (w : World) (k : IsMixedAt s w) (x : Member) (on : is_li
 
     of_unlink : IsLast
     of_unlink =
-        ⊎_elim {C = IsLast} (λ (may : may_unlink list this ≡ true). of_removing _ (frames.listed.list.frames y.first) may done)
+        ⊎_elim {C = IsLast} (λ (may : may_unlink list this ≡ true). of_removing _ refl (frames.listed.list.frames y.first) may done)
         (λ (none : may_unlink list this ≡ false). absurd (of_none none)) (cases_Bool (may_unlink list this))
 
   unlinks_none : (t : ℕ) → driver_row (driver_parts w) ≡ rows.Unlink t → slice_get w.driver.transfers t ≡ None → ⊥
@@ -278,12 +287,12 @@ module _ (s : Standing) (w : World) (k : IsMixedAt s w) (x : Member) (on : is_li
   last_by (a_link why) = of_link why
   last_by (an_unlink t is) = unlinks_by t is (slice_get d.transfers t) refl
 
-  last_store : IsLast
+  pub last_store : IsLast
   last_store = last_by (row_led p kept (driver_row p) row_of)
 
   -- ---- where it leads
 
-  itself : x ≡ last_store.work.member
+  pub itself : x ≡ last_store.work.member
   itself =
       frames.spread.once x last_store.work.member linked last_store.way
       (ap (λ (n : ℕ). n / 32) (eqb-true (id_of x) (id_of last_store.work.member) last_store.leaves.is))

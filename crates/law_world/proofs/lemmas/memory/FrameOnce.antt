@@ -270,8 +270,8 @@ record First (w v : World) (c : Descriptor) : Type 0 where
   leads : EndsOrLeads v.driver (link_in v.memory (c.id / 32))
 
 -- what stands in its frame wasn't given back
-unreleased : (d : DriverContent) → HasOwners d → (m : Member) (s : IsStanding d m) (v : IsSeen d.endpoints d.transfers s.number s.placed)
-    → v.transfer.released ≡ false
+pub unreleased : (d : DriverContent) → HasOwners d → (m : Member) (s : IsStanding d m)
+    (v : IsSeen d.endpoints d.transfers s.number s.placed) → v.transfer.released ≡ false
 unreleased d has m s v =
     ⊎_elim {C = v.transfer.released ≡ false}
     (λ (on : is_among s.number d.periodic.unlinks ≡ true).
