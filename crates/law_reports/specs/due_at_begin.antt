@@ -1,2 +1,5 @@
 pub mod Laws
 pub mod Samples
+pub mod Stored
+pub mod Unfinished
+pub mod Framed

@@ -2,13 +2,19 @@
 //! USB 2.0, 5.7.4 and 8.6).
 //!
 //! - `due`: What was due of a high-speed interrupt endpoint as its microframe began is done once the walk of the frames is over.
+//! - `framed`: What was in the frame list as a frame began stays there.
 //! - `slots`: Each slot of an isochronous transfer descriptor that was due as its microframe began is done too.
 //! - `slots_worked`: Worked rows of a microphone.
+//! - `stored`: What was asked of an isochronous endpoint for a frame is due in it.
+//! - `unfinished`: Where a transfer of an interrupt endpoint is unfinished a transaction of it is due.
 //! - `worked`: Worked rows of a keyboard.
 //!
 //! The module has no code of its own: each function is a law, and its body is empty.
 
 pub mod due;
+pub mod framed;
 pub mod slots;
 pub mod slots_worked;
+pub mod stored;
+pub mod unfinished;
 pub mod worked;

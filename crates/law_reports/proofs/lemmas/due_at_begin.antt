@@ -14,5 +14,9 @@ pub mod Own
 pub mod Sampled
 pub mod SlotAhead
 pub mod SlotThere
+pub mod BegunMoments
+pub mod Framed
+pub mod SlotStored
 pub mod SlotMoments
 pub mod SlotSampled
+pub mod Unfinished

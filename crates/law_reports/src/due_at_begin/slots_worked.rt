@@ -4,12 +4,13 @@ ghost use Rattle.std.specs.Prelude.{◌≡◌, false};
 ghost use Rattle.hc_core.specs.declared.controller.ControllerRow.TheVariants.{Begin};
 ghost use Rattle.bus_wire.specs.Bus.{fixed_of};
 ghost use Rattle.bus_world.specs.World.{controller_row};
-ghost use Rattle.law_world.specs.memory.MicrophoneSamples.{one_microphone};
+ghost use Rattle.law_world.specs.memory.MicrophoneSamples.{one_microphone, heard_at};
 ghost use Rattle.law_microframes.specs.due.slots.Samples.{due_at, due_slots};
 ghost use Rattle.claims_world.specs.DueAtBegin.{IsUncancelled};
 ghost use Rattle.claims_world.specs.SlotsAtBegin.{IsItdOf, IsSlotDueAtBegin};
-ghost use Rattle.claims_world.specs.Visits.{HasVisited, IsPastFrames, is_held_now};
+ghost use Rattle.claims_world.specs.Visits.{HasVisited, IsPastFrames, frame_in, is_held_now};
 ghost use Rattle.law_reports.specs.due_at_begin.Samples.{cancelled_microphone};
+ghost use Rattle.law_reports.specs.due_at_begin.Stored.{IsStoredFor};
 
 /// The Begin of its microframe leaves a world in which its slot is due, and the descriptor is the microphone's.
 pub fn a_slot_is_due_at_begin()
@@ -36,4 +37,10 @@ pub fn a_slot_is_done_by_the_end()
 /// A microphone whose cancel is accepted in its microframe is cancelled.
 pub fn a_cancelled_microphone_is_excused()
     ensures { IsUncancelled cancelled_microphone.driver 0 → ⊥ }
+{}
+
+/// The descriptor is stored for its frame as the microframe begins; it isn't while the command that took it on has it to link.
+pub fn a_descriptor_is_stored_for_its_frame()
+    ensures stored { IsStoredFor (due_at 1).driver 0 4160 (frame_in (due_at 1).control.frame.index) }
+    ensures not_yet { IsStoredFor (heard_at 2).driver 0 4160 (frame_in (due_at 1).control.frame.index) → ⊥ }
 {}

@@ -9,6 +9,7 @@ ghost use Rattle.claims_world.specs.SoFar.{HasMoved};
 ghost use Rattle.claims_world.specs.Visits.{IsPastFrames};
 ghost use Rattle.law_microframes.specs.due.Samples.{one_keyboard, with_loss, keyed_at, keyed_so_far, its_queue};
 ghost use Rattle.law_reports.specs.due_at_begin.Samples.{cancelled_keyboard};
+ghost use Rattle.law_reports.specs.due_at_begin.Unfinished.{HasUnfinished};
 
 /// The Begin of microframe 1 leaves a world in which a transaction of the keyboard is due.
 pub fn a_keyboard_is_due_at_begin()
@@ -29,4 +30,11 @@ pub fn a_keyboard_is_done_by_the_end()
 pub fn a_keyboard_is_excused()
     ensures lost { IsDueAtBegin (fixed_of with_loss) (keyed_at 22) 0 130 → ⊥ }
     ensures cancelled { IsUncancelled cancelled_keyboard.driver 0 → ⊥ }
+{}
+
+/// As its microframe begins the keyboard's transfer is unfinished, and its device is ready; where the script loses its second packet the
+/// device isn't.
+pub fn a_keyboard_has_unfinished_work()
+    ensures work { HasUnfinished (fixed_of one_keyboard) (keyed_at 22) 0 130 }
+    ensures lost { HasUnfinished (fixed_of with_loss) (keyed_at 22) 0 130 → ⊥ }
 {}

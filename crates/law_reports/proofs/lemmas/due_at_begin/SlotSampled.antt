@@ -1,5 +1,5 @@
 -- The microphone's slot as its microframe begins.
-use Rattle.std.proofs.Common.{◌≡◌, Some, false, slice_get, ap, refl, sym, ◌∙◌, arith, inl}
+use Rattle.std.proofs.Common.{◌≡◌, ℕ, ◌<◌, Some, false, slice_get, ap, refl, sym, ◌∙◌, arith, inl}
 use Rattle.std.proofs.lemmas.Bool.{true≢false}
 use Rattle.std.proofs.lemmas.Option.{same_Some}
 use Rattle.word_mem.specs.Memory.{filled}
@@ -34,7 +34,9 @@ use Rattle.claims_world.specs.DueAtBegin.{IsUncancelled}
 use Rattle.claims_world.specs.Visits.{HasVisited}
 use Rattle.law_microframes.specs.due.slots.Samples.{due_at, due_slots}
 use Rattle.claims_world.specs.SlotsAtBegin.{IsItdOf, IsSlotDueAtBegin}
+use Rattle.law_world.specs.memory.MicrophoneSamples.{heard_at}
 use Rattle.law_reports.specs.due_at_begin.Samples.{cancelled_microphone}
+use Rattle.law_reports.specs.due_at_begin.Stored.{IsStoredFor}
 
 pub slot_begins : controller_row (due_at 0) ≡ Begin
 unfolding ticks lowest_run filled words_in with_words_in store_words lend_runs qh_words all_descriptors with_frames
@@ -100,3 +102,28 @@ unfolding ticks lowest_run filled words_in with_words_in store_words lend_runs q
     linked_descriptors itd_words itd_bad itd_at itd_read slot_word slot_at link_word link_read first_bad_bit slots_before predecessors
     frames word_after before_the behind_the fetched_itd after_in itd_written places all_reached stored
 cancelled_isnt_kept kept = true≢false (kept _ refl)
+
+pub slot_is_stored : IsStoredFor (due_at 1).driver 0 4160 (frame_in (due_at 1).control.frame.index)
+unfolding ticks lowest_run filled words_in with_words_in store_words lend_runs qh_words all_descriptors with_frames
+    linked_descriptors itd_words itd_bad itd_at itd_read slot_word slot_at link_word link_read first_bad_bit slots_before predecessors
+    frames word_after before_the behind_the fetched_itd after_in itd_written places all_reached stored
+slot_is_stored = record {
+  endpoint = _;
+  here = refl;
+  of = record { number = 0; transfer = _; here = refl; sort = refl; held = refl; at = refl; endpoint = refl };
+  itd = refl;
+  frame = refl;
+  older = λ i first count is. absurd cc;
+  idle = λ v is. absurd cc;
+  untold = refl;
+}
+
+none_below : (n : ℕ) → n < 0 → ⊥
+none_below n low = omega (arith, low)
+
+-- the command is to link the descriptors from transfer 0 on
+pub slot_isnt_stored_yet : IsStoredFor (heard_at 2).driver 0 4160 (frame_in (due_at 1).control.frame.index) → ⊥
+unfolding ticks lowest_run filled words_in with_words_in store_words lend_runs qh_words all_descriptors with_frames
+    linked_descriptors itd_words itd_bad itd_at itd_read slot_word slot_at link_word link_read first_bad_bit slots_before predecessors
+    frames word_after before_the behind_the fetched_itd after_in itd_written places all_reached stored
+slot_isnt_stored_yet st = none_below st.of.number (st.older _ 0 _ refl)

@@ -1,0 +1,46 @@
+-- The world that the Begin of a microframe left is one of the moments of a script's run, or that of a Begin before all lines.
+use Rattle.std.proofs.Common.{ℕ, zero, suc, List, [], ◌∷◌, sym, subst}
+use Rattle.script_types.specs.declared.scripts.Event.TheVariants as events
+use Rattle.script_types.specs.declared.scripts.Script.{Script}
+use Rattle.hc_core.specs.declared.controller.ControllerRow.{ControllerRow}
+use Rattle.hc_core.specs.declared.controller.ControllerRow.TheVariants as rows
+use Rattle.bus_wire.specs.Bus.{Fixed, fixed_of}
+use Rattle.bus_world.specs.Budgets.{moment}
+use Rattle.bus_world.specs.Opening.{opening_world}
+use Rattle.bus_world.specs.Orders.{Left, Events, Microframes, Answer, Command, Plugs, OrderedWorld, tick_at, ticks}
+use Rattle.bus_world.specs.World.{World, controller_row, controller_next}
+use Rattle.claims_world.specs.Carried.{carried_from, carried_in}
+use Rattle.claims_world.specs.DueAtBegin.{begun}
+use Rattle.claims_world.specs.Visits.{began_at, began_by, began}
+use Rattle.law_world.proofs.lemmas.memory.Carrying.{carried_then}
+use Rattle.law_world.proofs.lemmas.memory.LetGo.{moment_then}
+
+module _ (P : World → Type 0) (fixed : Fixed) (b w : World) (was : P (controller_next fixed b)) where
+  by_row : (r : ControllerRow) → P (controller_next fixed w) → P (controller_next fixed (began_at r w b))
+  by_row rows.Begin now = now
+  by_row rows.Idle now = was
+  by_row rows.Frame now = was
+  by_row rows.Enter now = was
+  by_row rows.Go now = was
+  by_row rows.End now = was
+
+  by_orders : (orders : List Left) → P (tick_at fixed w orders).world → P (controller_next fixed (carried_in began_by fixed w orders b))
+  by_orders [] now = was
+  by_orders (Events event zero ∷ rest) now = was
+  by_orders (Events events.C (suc n) ∷ rest) now = by_row (controller_row w) now
+  by_orders (Events events.D (suc n) ∷ rest) now = was
+  by_orders (Microframes zero ∷ rest) now = was
+  by_orders (Microframes (suc n) ∷ rest) now = by_row (controller_row w) now
+  by_orders (Answer ended n ∷ rest) now = was
+  by_orders (Command n cmd ∷ rest) now = was
+  by_orders (Plugs there port ∷ rest) now = was
+
+-- what is so at each moment is so as a microframe begins
+pub so_as_begun : (P : World → Type 0) (s : Script) → P (controller_next (fixed_of s) (opening_world s))
+    → ((k : ℕ) → P (moment s k).world) → (k : ℕ) → P (begun s k)
+unfolding ticks carried_from
+so_as_begun P s first each zero = first
+so_as_begun P s first each (suc k) =
+    subst (λ (b : World). P (controller_next (fixed_of s) b)) (sym (carried_then began_by s (opening_world s) k))
+    (by_orders P (fixed_of s) (began s k) (moment s k).world (so_as_begun P s first each k) (moment s k).orders
+    (subst (λ (o : OrderedWorld). P o.world) (moment_then s k) (each (suc k))))
