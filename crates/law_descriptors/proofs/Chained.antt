@@ -1,13 +1,9 @@
 -- The endpoint whose members a command unlinks is in its frames, after each event of the driver and each accepted command.
-use Rattle.std.proofs.Common.{◌≡◌, ℕ, zero, suc, Bool, true, false, cond, nat_lt, List, [], ◌∷◌, ◌++◌, length, take, drop, set, slice_get, Option, Some, None, Ok, ap, sym, subst, ◌∙◌, refl}
-use Rattle.std.specs.Prelude.{is_some, is_none, ◌-◌}
+use Rattle.std.proofs.Common.{◌≡◌, ℕ, suc, Bool, true, false, cond, nat_lt, List, [], ◌∷◌, ◌++◌, length, take, drop, set, slice_get, Option, Some, None, Ok, ap, sym, subst, ◌∙◌, refl}
+use Rattle.std.specs.Prelude.{is_some, is_none}
 use Rattle.std.proofs.lemmas.Option.{same_Some}
-use Rattle.law_frame_list.proofs.Common.{endpoint_command, transfer_command, unlink_command, removed_command}
-use Rattle.law_driver.proofs.Common.{one_command}
 use Rattle.law_common.proofs.Lists.{set_here}
 use Rattle.usb_base.specs.declared.commands.Cmd.{Cmd}
-use Rattle.usb_base.specs.declared.endpoints.EpName.{EpName}
-use Rattle.usb_base.specs.declared.endpoints.EndCause.{EndCause}
 use Rattle.word_mem.specs.Memory.{Mem}
 use Rattle.mem_runs.specs.Book.{holding, lend_taken}
 use Rattle.drv_periodic_table.specs.Periodic.{is_periodic}
@@ -15,30 +11,24 @@ use Rattle.drv_periodic_table.specs.declared.content.Removed.TheVariants as remo
 use Rattle.drv_chains.specs.declared.members.Member.{Member}
 use Rattle.drv_table.specs.declared.content.Reserve.{Reserve}
 use Rattle.drv_table.specs.declared.content.Endpoint.{Endpoint}
-use Rattle.drv_table.specs.declared.content.Transfer.{Transfer}
 use Rattle.drv_table.specs.declared.content.Command.{Command}
 use Rattle.drv_table.specs.declared.content.Command.TheVariants as unfinished
 use Rattle.drv_table.specs.declared.rows.DriverRow.{DriverRow}
 use Rattle.drv_table.specs.declared.rows.DriverRow.TheVariants as rows
-use Rattle.drv_table.specs.declared.rows.Found.{Found}
-use Rattle.drv_table.specs.declared.rows.Found.TheVariants as founds
-use Rattle.drv_table.specs.DriverContent.{DriverContent, waits_for}
+use Rattle.drv_table.specs.DriverContent.{DriverContent}
 use Rattle.drv_table.specs.Opening.{opening}
 use Rattle.drv_table.specs.Accepting.{Offered}
 use Rattle.drv_table.specs.Offers.{offered}
 use Rattle.drv_table.specs.CancelOffers.{first_end, endpoint_members, with_cancel}
-use Rattle.drv_table.specs.Harvests.{noted, end_of, is_stall}
 use Rattle.drv_table.specs.Parts.{Parts}
 use Rattle.drv_table.specs.Commands.{events_of, links, leave_ring, leave_frames, no_command, removal_of, finished, or_finished, linked_on, advanced_by}
 use Rattle.drv_table.specs.FrameChoice.{framed_by, framed_notes, with_notes, placement_at, linked_by}
-use Rattle.drv_table.specs.Releases.{freed_by}
-use Rattle.drv_table.specs.Harvesting.{told_with, behind_one, behind, after_end, harvested_as, served, after_harvest}
 use Rattle.drv_table.specs.Rows.{driver_row, after_driver_row}
 use Rattle.law_driver.specs.run_owners.Accepts.{Accepts, opens, chains, places, transfers, describes, cancels, unchains, Unchains}
 use Rattle.law_driver.specs.run_owners.Due.{IsDue}
 use Rattle.claims_driver.specs.Leaving.{HasOwners}
 use Rattle.law_driver.proofs.lemmas.run_owners.Commands.{each_command_has_its_reason}
-use Rattle.law_driver.proofs.lemmas.run_owners.Reasons.{each_event_is_due}
+use Rattle.law_driver.proofs.lemmas.run_owners.Reasons.{each_event_is_due, stays_idle}
 use Rattle.law_driver.specs.listed_members.Members.{IsListed}
 use Rattle.law_descriptors.specs.ListRows.{LeavesChained}
 
@@ -91,56 +81,19 @@ framed_chained d n (Some (unfinished.Iso e t count)) old =
     let f = with_notes d n (take count (drop t d.transfers)) (framed_notes d n e t count (placement_at d e)) in advanced_chained f f.command old
 framed_chained d n _ old = old
 
--- ---- a harvest leaves it
-
-behind_command : (d : DriverContent) (e : ℕ) (name : EpName) (k n : ℕ) → (behind d e name k n).command ≡ d.command
-unfolding behind
-behind_command d e name k zero = refl
-behind_command d e name k (suc n) =
-    let f = behind_one d e name k (slice_get d.transfers k) in behind_command f e name (suc k) n ∙ one_command d e name k (slice_get d.transfers k)
-
-end_command : (d : DriverContent) (e t : ℕ) (x : Endpoint) (stall : Bool) (o : Option EndCause) → (after_end d e t x stall o).command ≡ d.command
-end_command d e t x stall (Some cause) = refl
-end_command d e t x false None = refl
-end_command d e t x true None = behind_command _ e x.desc.name (suc t) (length d.transfers - suc t)
-
-read_command : (d : DriverContent) (m : Mem) (e t : ℕ) (x : Endpoint) (y : Transfer) (found : Found) → (harvested_as d m e t x y found).command ≡ d.command
-read_command d m e t x y (founds.Ended n what) = end_command (told_with d m t y what x.desc.name (noted d.notes y.place n)) e t x (is_stall what) (end_of x.desc.kind what)
-read_command d m e t x y _ = refl
-
-pub harvest_command : (d : DriverContent) (m : Mem) (e t : ℕ) (found : Found) (o : Option Endpoint) (q : Option Transfer) → (after_harvest d m e t found o q).command ≡ d.command
-harvest_command d m e t found None q = refl
-harvest_command d m e t found (Some x) None = refl
-harvest_command d m e t found (Some x) (Some y) = by (waits_for e y)
-  where
-    by : (b : Bool) → (cond b (served (harvested_as d m e t x y found) e) d).command ≡ d.command
-    by true = read_command d m e t x y found
-    by false = refl
-
 -- ---- any event
 
-idle_row : (row : DriverRow) (p : Parts) → (after_driver_row row p).driver.command ≡ p.driver.command → p.driver.command ≡ None → LeavesChained (after_driver_row row p).driver
-idle_row row p same none = none_chained (after_driver_row row p).driver (same ∙ none)
-
 row_chained : (row : DriverRow) (p : Parts) → IsDue p row → LeavesChained p.driver → LeavesChained (after_driver_row row p).driver
-row_chained rows.Lend p due old = advanced_chained (record p.driver { book = (lend_taken (holding p.driver.book p.memory)).book }) p.driver.command old
+row_chained rows.Lend p due old =
+    advanced_chained (record p.driver { book = (lend_taken (holding p.driver.book p.memory)).book }) p.driver.command old
 row_chained (rows.Store b at v) p due old = advanced_chained p.driver p.driver.command old
-row_chained (rows.Mend w) p due old = idle_row (rows.Mend w) p refl due.0
 row_chained rows.Frames p due old = framed_chained p.driver p.registers.frame_index p.driver.command old
 row_chained rows.LendDescriptors p due old =
-    advanced_chained (record p.driver { book = (lend_taken (holding p.driver.book (linked_by p.driver p.memory p.driver.command))).book }) p.driver.command old
-row_chained (rows.Unlink t) p due old = idle_row (rows.Unlink t) p (unlink_command p t (slice_get p.driver.transfers t)) due.idle
-row_chained (rows.ReleaseRemoved what) p due old = idle_row (rows.ReleaseRemoved what) p (removed_command p what) due.idle
-row_chained (rows.ReleaseTransfer t) p due old =
-    idle_row (rows.ReleaseTransfer t) p (transfer_command p t (slice_get p.driver.transfers t) (freed_by p.driver (holding p.driver.book p.memory) (slice_get p.driver.transfers t))) due.idle
-row_chained (rows.ReleaseEndpoint e) p due old = idle_row (rows.ReleaseEndpoint e) p (endpoint_command p e (slice_get p.driver.endpoints e)) due.idle
-row_chained rows.ClearAdvance p due old = idle_row rows.ClearAdvance p refl due.0
-row_chained rows.RingBell p due old = idle_row rows.RingBell p refl due.0
-row_chained (rows.ReadStatus heard) p due old = idle_row (rows.ReadStatus heard) p refl due.0
-row_chained (rows.ReadFrame n) p due old = idle_row (rows.ReadFrame n) p refl due.0
-row_chained (rows.Harvest e t found) p due old =
-    idle_row (rows.Harvest e t found) p (harvest_command p.driver p.memory e t found (slice_get p.driver.endpoints e) (slice_get p.driver.transfers t)) due.idle
+    advanced_chained
+    (record p.driver { book = (lend_taken (holding p.driver.book (linked_by p.driver p.memory p.driver.command))).book })
+    p.driver.command old
 row_chained rows.Rest p due old = old
+row_chained row p due old = none_chained (after_driver_row row p).driver (stays_idle row p due refl refl)
 
 pub events_leave_chained : (p : Parts) → LeavesChained p.driver → LeavesChained (after_driver_row (driver_row p) p).driver
 events_leave_chained p old = row_chained (driver_row p) p (each_event_is_due p) old

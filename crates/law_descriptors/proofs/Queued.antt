@@ -5,7 +5,7 @@ use Rattle.std.specs.List.{AllByRecursion}
 use Rattle.std.proofs.lemmas.Bool.{false≢true}
 use Rattle.std.proofs.lemmas.Bool.Decides.{nat_tests}
 use Rattle.std.proofs.lemmas.Option.{same_Some}
-use Rattle.law_frame_list.proofs.Common.{frames_first, transfer_command, unlink_command, endpoint_command, removed_command}
+use Rattle.law_frame_list.proofs.Common.{frames_first}
 use Rattle.law_descriptors.proofs.Common.{out_of_frames, either, same_endpoint, same_first, no_work}
 use Rattle.usb_base.specs.declared.commands.Cmd.{Cmd}
 use Rattle.word_mem.specs.Memory.{Mem}
@@ -29,12 +29,11 @@ use Rattle.drv_table.specs.CancelOffers.{endpoint_members, with_cancel}
 use Rattle.drv_table.specs.Parts.{Parts}
 use Rattle.drv_table.specs.Commands.{events_of, links, removes_members, no_command, finished, list_after, or_finished, linked_on, advanced_by}
 use Rattle.drv_table.specs.FrameChoice.{framed_by, framed_notes, with_notes, placement_at, linked_by}
-use Rattle.drv_table.specs.Releases.{freed_by}
 use Rattle.drv_table.specs.Rows.{driver_row, after_driver_row}
 use Rattle.law_driver.specs.run_owners.Accepts.{Accepts, opens, chains, places, transfers, describes, cancels, unchains, Describes, Unchains}
 use Rattle.law_driver.specs.run_owners.Due.{IsDue}
 use Rattle.law_driver.proofs.lemmas.run_owners.Commands.{each_command_has_its_reason}
-use Rattle.law_driver.proofs.lemmas.run_owners.Reasons.{each_event_is_due}
+use Rattle.law_driver.proofs.lemmas.run_owners.Reasons.{each_event_is_due, stays_idle}
 use Rattle.law_driver.proofs.lemmas.run_owners.Stays.{begun_notes}
 use Rattle.drv_table.specs.declared.content.Transfer.{Transfer}
 use Rattle.drv_periodic_table.specs.declared.content.DescriptorNote.{DescriptorNote}
@@ -42,7 +41,7 @@ use Rattle.claims_driver.specs.FrameListMembers.{placed_in}
 use Rattle.law_driver.specs.listed_members.Members.{IsWaitingOf, IsUnderWay, IsListed}
 use Rattle.law_descriptors.specs.Queued.{LinksQueued, DescriptorsComeFirst, LeavingComeFirst}
 use Rattle.law_descriptors.proofs.Coming.{waiting_members_come}
-use Rattle.law_descriptors.proofs.Chained.{harvest_command, out_of_ring}
+use Rattle.law_descriptors.proofs.Chained.{out_of_ring}
 
 -- ---- where no command links descriptors
 
@@ -202,29 +201,19 @@ frames_go d n (unfinished.Iso e t count) is next old =
 
 -- ---- any event
 
-idle_row : (row : DriverRow) (p : Parts) → (after_driver_row row p).driver.command ≡ p.driver.command → p.driver.command ≡ None → LinksQueued (after_driver_row row p).driver
-idle_row row p same none = idle_linked (after_driver_row row p).driver (same ∙ none)
-
-row_linked : (row : DriverRow) (p : Parts) → IsDue p row → IsListed p.driver → LinksQueued p.driver → LinksQueued (after_driver_row row p).driver
-row_linked rows.Lend p due listed old = command_goes p.driver (lend_taken (holding p.driver.book p.memory)).book p.driver.command refl listed old
+row_linked : (row : DriverRow) (p : Parts) → IsDue p row → IsListed p.driver → LinksQueued p.driver
+    → LinksQueued (after_driver_row row p).driver
+row_linked rows.Lend p due listed old =
+    command_goes p.driver (lend_taken (holding p.driver.book p.memory)).book p.driver.command refl listed old
 row_linked (rows.Store b at v) p due listed old = command_goes p.driver p.driver.book p.driver.command refl listed old
-row_linked (rows.Mend w) p due listed old = idle_row (rows.Mend w) p refl due.0
 row_linked rows.Frames p due listed old =
-    subst (λ (o : Option Command). LinksQueued (framed_by p.driver p.registers.frame_index o)) (sym due.unfinished) (frames_go p.driver p.registers.frame_index due.command due.unfinished due.next old)
+    subst (λ (o : Option Command). LinksQueued (framed_by p.driver p.registers.frame_index o)) (sym due.unfinished)
+    (frames_go p.driver p.registers.frame_index due.command due.unfinished due.next old)
 row_linked rows.LendDescriptors p due listed old =
-    command_goes p.driver (lend_taken (holding p.driver.book (linked_by p.driver p.memory p.driver.command))).book p.driver.command refl listed old
-row_linked (rows.Unlink t) p due listed old = idle_row (rows.Unlink t) p (unlink_command p t (slice_get p.driver.transfers t)) due.idle
-row_linked (rows.ReleaseRemoved what) p due listed old = idle_row (rows.ReleaseRemoved what) p (removed_command p what) due.idle
-row_linked (rows.ReleaseTransfer t) p due listed old =
-    idle_row (rows.ReleaseTransfer t) p (transfer_command p t (slice_get p.driver.transfers t) (freed_by p.driver (holding p.driver.book p.memory) (slice_get p.driver.transfers t))) due.idle
-row_linked (rows.ReleaseEndpoint e) p due listed old = idle_row (rows.ReleaseEndpoint e) p (endpoint_command p e (slice_get p.driver.endpoints e)) due.idle
-row_linked rows.ClearAdvance p due listed old = idle_row rows.ClearAdvance p refl due.0
-row_linked rows.RingBell p due listed old = idle_row rows.RingBell p refl due.0
-row_linked (rows.ReadStatus heard) p due listed old = idle_row (rows.ReadStatus heard) p refl due.0
-row_linked (rows.ReadFrame n) p due listed old = idle_row (rows.ReadFrame n) p refl due.0
-row_linked (rows.Harvest e t found) p due listed old =
-    idle_row (rows.Harvest e t found) p (harvest_command p.driver p.memory e t found (slice_get p.driver.endpoints e) (slice_get p.driver.transfers t)) due.idle
+    command_goes p.driver (lend_taken (holding p.driver.book (linked_by p.driver p.memory p.driver.command))).book p.driver.command refl
+    listed old
 row_linked rows.Rest p due listed old = old
+row_linked row p due listed old = idle_linked (after_driver_row row p).driver (stays_idle row p due refl refl)
 
 pub events_link_queued : (p : Parts) → IsListed p.driver → LinksQueued p.driver → LinksQueued (after_driver_row (driver_row p) p).driver
 events_link_queued p listed old = row_linked (driver_row p) p (each_event_is_due p) listed old

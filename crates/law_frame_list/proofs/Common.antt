@@ -1,11 +1,11 @@
 -- Lemmas that several files need.
-use Rattle.std.proofs.Common.{ℕ, slice_get, ◌≡◌, Some, zero, refl, suc, Bool, Option, None, ◌%◌, ◌<◌, arith, subst, ◌+◌, ◌*◌, ◌^◌, ◌==◌, ◌/◌, List, drop, ap, ◌∷◌, ◌∙◌, [], ◌≤◌, if◌then◌else◌, length}
+use Rattle.std.proofs.Common.{ℕ, slice_get, ◌≡◌, Some, zero, refl, suc, Bool, Option, ◌%◌, ◌<◌, arith, subst, ◌+◌, ◌*◌, ◌^◌, ◌==◌, ◌/◌, List, drop, ap, ◌∷◌, ◌∙◌, [], ◌≤◌, if◌then◌else◌, length}
 use Rattle.std.specs.List.{AllByRecursion}
 use Rattle.std.proofs.lemmas.Bool.{le-leb}
 use Rattle.word_mem.specs.Memory.{Mem}
 use Rattle.mem_runs.specs.declared.slots.Slot.{Slot}
 use Rattle.mem_runs.specs.declared.slots.Slot.TheVariants.{Empty}
-use Rattle.mem_runs.specs.Book.{Holding, slot_of}
+use Rattle.mem_runs.specs.Book.{slot_of}
 use Rattle.mem_runs.proofs.Standing.{keeps_within, lends_within}
 use Rattle.law_common.proofs.Booleans.{either}
 use Rattle.drv_chains.specs.Chains.{Schedule, first_of}
@@ -15,20 +15,17 @@ use Rattle.drv_chains.specs.declared.members.Predecessor.TheVariants.{Element, A
 use Rattle.drv_periodic.specs.Periodic.{next_store, address_of}
 use Rattle.link_words.specs.Layout.{word_of, high_bits, bits, flag}
 use Rattle.link_words.specs.Fields.{link_rows, link_at}
-use Rattle.drv_periodic_table.specs.declared.content.Removed.{Removed}
 use Rattle.drv_table.specs.Commands.{events_of, link_row, command_row}
 use Rattle.drv_table.specs.DriverContent.{DriverContent}
 use Rattle.drv_table.specs.declared.content.Endpoint.{Endpoint}
-use Rattle.drv_table.specs.Releases.{cancel_told, is_told, after_endpoint, after_transfer}
+use Rattle.drv_table.specs.Releases.{cancel_told, is_told}
 use Rattle.drv_table.specs.Parts.{Parts}
 use Rattle.drv_table.specs.declared.content.Transfer.{Transfer}
-use Rattle.drv_table.specs.Removals.{after_unlink, after_removed, after_descriptor, after_placed}
 use Rattle.drv_table.specs.Rows.{driver_row, row_for}
 use Rattle.drv_table.specs.declared.content.Command.{Command}
 use Rattle.claims_driver.specs.Owners.{SlotHas, HasRun, Described, QueueHead, HasBlocks}
 use Rattle.law_frame_list.specs.list_closed.Closed.{IsInFrame, IsNext}
 use Rattle.mem_runs.specs.declared.slots.Slot.TheVariants as slots
-use Rattle.drv_periodic_table.specs.declared.content.Removed.TheVariants as removed
 use Rattle.drv_table.specs.declared.content.Command.TheVariants as unfinished
 use Rattle.drv_table.specs.declared.rows.DriverRow.TheVariants as rows
 
@@ -46,30 +43,6 @@ same_number one two t u same = cc
 
 pub told_command : (d : DriverContent) (m : Mem) (e : ℕ) (x : Endpoint) → (cancel_told d m e x).command ≡ d.command
 told_command d m e x = either (λ (f : DriverContent). f.command ≡ d.command) (is_told x) _ d refl refl
-
-pub endpoint_command : (p : Parts) (e : ℕ) (o : Option Endpoint) → (after_endpoint p e o).driver.command ≡ p.driver.command
-endpoint_command p e None = refl
-endpoint_command p e (Some x) = told_command p.driver p.memory e x
-
-pub transfer_command : (p : Parts) (t : ℕ) (o : Option Transfer) (h : Holding) → (after_transfer p t o h).driver.command ≡ p.driver.command
-transfer_command p t None h = refl
-transfer_command p t (Some x) h = refl
-
-pub unlink_command : (p : Parts) (t : ℕ) (o : Option Transfer) → (after_unlink p t o).driver.command ≡ p.driver.command
-unlink_command p t None = refl
-unlink_command p t (Some x) = refl
-
-pub removed_command : (p : Parts) (what : Removed) → (after_removed p what).driver.command ≡ p.driver.command
-removed_command p (removed.Descriptor t) = by (slice_get p.driver.transfers t)
-  where
-    by : (o : Option Transfer) → (after_descriptor p t o).driver.command ≡ p.driver.command
-    by None = refl
-    by (Some y) = refl
-removed_command p (removed.Endpoint e) = by (slice_get p.driver.endpoints e)
-  where
-    by : (o : Option Endpoint) → (after_placed p e o).driver.command ≡ p.driver.command
-    by None = refl
-    by (Some x) = told_command p.driver p.memory e x
 
 pub link_again : (w : ℕ) → w % 32 < 8 → word_of link_rows (link_at w) ≡ w
 link_again w small = by (w % 2) refl (omega arith)

@@ -11,6 +11,7 @@ use Rattle.drv_periodic_table.specs.declared.content.Removal.{Removal}
 use Rattle.drv_periodic_table.specs.declared.content.Removed.TheVariants as removed
 use Rattle.drv_periodic_table.specs.Linking.{with_first, begun_next}
 use Rattle.drv_periodic_table.specs.Periodic.{PeriodicContent, is_periodic}
+use Rattle.drv_table.specs.declared.content.Bell.TheVariants as bells
 use Rattle.drv_table.specs.declared.content.Command.{Command}
 use Rattle.drv_table.specs.declared.content.Command.TheVariants as unfinished
 use Rattle.drv_table.specs.declared.content.Endpoint.{Endpoint}
@@ -33,9 +34,9 @@ use Rattle.law_driver.specs.run_owners.Due.{IsDue, IsHarvestDue}
 use Rattle.law_driver.proofs.lemmas.run_owners.Orders.{IsLeft, IsRemoved}
 use Rattle.law_driver.proofs.lemmas.run_owners.Leaves.{first_left, first_removed, GoesBy, let_go_goes, let_waiting_goes, none_of, less_cleared, less_removed, read_orderly}
 use Rattle.law_driver.proofs.lemmas.run_owners.Goes.{begun_orderly}
-use Rattle.law_driver.proofs.lemmas.run_owners.Reasons.{each_event_is_due}
-use Rattle.law_footprints.proofs.Fields.{bell_stays, rung_stays, command_stays}
-use Rattle.law_footprints.specs.Footprint.{footprint}
+use Rattle.law_driver.proofs.lemmas.run_owners.Reasons.{each_event_is_due, comes_idle, stays_idle}
+use Rattle.law_footprints.proofs.Fields.{bell_stays, rung_stays}
+use Rattle.law_footprints.proofs.Frame.{frame}
 use Rattle.law_resting.specs.Counted.{HasKind, AreCounted, IsOfItsKind, IsCounted, EventsKeepCounts}
 use Rattle.law_resting.proofs.Counting.{lists_moved, rung_moved, cleared_moved, read_moved, unlinked_moved}
 use Rattle.law_resting.proofs.Gone.{none_leaves, ring_alone, frames_alone, left_ring, left_frames, transfer_gone, descriptor_gone, endpoint_gone}
@@ -197,17 +198,6 @@ idle_kinds f is e x leaves here = absurd (none_some (sym (ap leaver is) ∙ leav
     none_some : ◌≡◌ {A = Option ℕ} None (Some e) → ⊥
     none_some w = cc
 
-module _ (p : Parts) (row : DriverRow) (idle : p.driver.command ≡ None) (old : IsCounted p.driver) where
-  -- the doorbell is as it was
-  quiet : (footprint row p.driver.command).bell ≡ false → (footprint row p.driver.command).rung ≡ false
-      → (footprint row p.driver.command).command ≡ false
-      → CountsIn (after_driver_row row p).driver → IsCounted (after_driver_row row p).driver
-  quiet bell rung command counts = record {
-    counts = counts;
-    kinds = idle_kinds (after_driver_row row p).driver (command_stays row p p.driver.command refl command ∙ idle);
-    bell = λ is. rung_stays row p p.driver.command refl rung ∙ old.bell (sym (bell_stays row p p.driver.command refl bell) ∙ is);
-  }
-
 transfer_row : (p : Parts) (t : ℕ) (o : Option Transfer) → slice_get p.driver.transfers t ≡ o → slice_get p.driver.harvested 0 ≡ Some t
     → IsCounted p.driver
     → CountsIn (after_transfer p t o (freed_by p.driver (holding p.driver.book p.memory) o)).driver
@@ -323,42 +313,55 @@ harvest_row p e t found due old =
 lent_counted : (d : DriverContent) (book : Book) → IsCounted d → IsCounted (record d { book = book })
 lent_counted d book old = record { counts = old.counts; kinds = old.kinds; bell = old.bell }
 
+-- what is counted, where no command is unfinished
+due_counts : (row : DriverRow) (p : Parts) → comes_idle row ≡ true → IsDue p row → IsOrderly p.driver → IsCounted p.driver
+    → CountsIn (after_driver_row row p).driver
+due_counts rows.Lend p idle due order old = absurd (false≢true idle)
+due_counts (rows.Store b at v) p idle due order old = absurd (false≢true idle)
+due_counts rows.Frames p idle due order old = absurd (false≢true idle)
+due_counts rows.LendDescriptors p idle due order old = absurd (false≢true idle)
+due_counts (rows.Unlink t) p idle due order old = unlink_row p t (slice_get p.driver.transfers t) due.first old
+due_counts (rows.ReleaseRemoved (removed.Descriptor t)) p idle due order old =
+    descriptor_row p t (slice_get p.driver.transfers t) due.removal refl due.first due.is old
+due_counts (rows.ReleaseRemoved (removed.Endpoint e)) p idle due order old =
+    placed_row p e (slice_get p.driver.endpoints e) due.removal refl due.first due.is due.none_before order old
+due_counts (rows.ReleaseTransfer t) p idle due order old = transfer_row p t (slice_get p.driver.transfers t) refl due.first old
+due_counts (rows.ReleaseEndpoint e) p idle due order old =
+    endpoint_row p e (slice_get p.driver.endpoints e) refl due.first due.none_before order old
+due_counts rows.ClearAdvance p idle due order old = lists_moved (cleared_moved (returns_of p.driver)) old.counts
+due_counts rows.RingBell p idle due order old = lists_moved (rung_moved (returns_of p.driver)) old.counts
+due_counts (rows.ReadFrame n) p idle due order old = lists_moved (read_moved (returns_of p.driver) n) old.counts
+due_counts (rows.Harvest e t found) p idle due order old = harvest_row p e t found due old
+due_counts row p idle due order old =
+    subst (λ (q : Parts). CountsIn q.driver) (sym (frame row p p.driver.command refl)) old.counts
+
+-- the doorbell
+due_bell : (row : DriverRow) (p : Parts) → IsCounted p.driver → (after_driver_row row p).driver.bell ≡ bells.Quiet
+    → (after_driver_row row p).driver.rung ≡ []
+due_bell rows.ClearAdvance p old is = refl
+due_bell rows.RingBell p old is = absurd (cc)
+due_bell (rows.ReadStatus true) p old is = absurd (cc)
+due_bell (rows.ReadStatus false) p old is = absurd (cc)
+due_bell row p old is =
+    rung_stays row p p.driver.command refl refl ∙ old.bell (sym (bell_stays row p p.driver.command refl refl) ∙ is)
+
 due_counted : (row : DriverRow) (p : Parts) → IsDue p row → IsOrderly p.driver → IsCounted p.driver
     → IsCounted (after_driver_row row p).driver
 due_counted rows.Lend p due order old =
     let d = record p.driver { book = (lend_taken (holding p.driver.book p.memory)).book } in
     advance_counted d order (lent_counted p.driver (lend_taken (holding p.driver.book p.memory)).book old)
 due_counted (rows.Store b at v) p due order old = advance_counted p.driver order old
-due_counted (rows.Mend w) p due order old = record { counts = old.counts; kinds = old.kinds; bell = old.bell }
 due_counted rows.Frames p due order old = framed_counted p.driver p.registers.frame_index p.driver.command order old
 due_counted rows.LendDescriptors p due order old =
     let d = record p.driver { book = (lend_taken (holding p.driver.book (linked_by p.driver p.memory p.driver.command))).book } in
     advance_counted d order (lent_counted p.driver (lend_taken (holding p.driver.book (linked_by p.driver p.memory p.driver.command))).book
     old)
-due_counted (rows.Unlink t) p due order old =
-    quiet p (rows.Unlink t) due.idle old refl refl refl (unlink_row p t (slice_get p.driver.transfers t) due.first old)
-due_counted (rows.ReleaseRemoved (removed.Descriptor t)) p due order old =
-    quiet p (rows.ReleaseRemoved (removed.Descriptor t)) due.idle old refl refl refl
-    (descriptor_row p t (slice_get p.driver.transfers t) due.removal refl due.first due.is old)
-due_counted (rows.ReleaseRemoved (removed.Endpoint e)) p due order old =
-    quiet p (rows.ReleaseRemoved (removed.Endpoint e)) due.idle old refl refl refl
-    (placed_row p e (slice_get p.driver.endpoints e) due.removal refl due.first due.is due.none_before order old)
-due_counted (rows.ReleaseTransfer t) p due order old =
-    quiet p (rows.ReleaseTransfer t) due.idle old refl refl refl (transfer_row p t (slice_get p.driver.transfers t) refl due.first old)
-due_counted (rows.ReleaseEndpoint e) p due order old =
-    quiet p (rows.ReleaseEndpoint e) due.idle old refl refl refl
-    (endpoint_row p e (slice_get p.driver.endpoints e) refl due.first due.none_before order old)
-due_counted rows.ClearAdvance p due order old =
-    record { counts = lists_moved (cleared_moved (returns_of p.driver)) old.counts; kinds = old.kinds; bell = λ is. refl }
-due_counted rows.RingBell p due order old =
-    record { counts = lists_moved (rung_moved (returns_of p.driver)) old.counts; kinds = old.kinds; bell = λ is. absurd (cc) }
-due_counted (rows.ReadStatus true) p due order old = record { counts = old.counts; kinds = old.kinds; bell = λ is. absurd (cc) }
-due_counted (rows.ReadStatus false) p due order old = record { counts = old.counts; kinds = old.kinds; bell = λ is. absurd (cc) }
-due_counted (rows.ReadFrame n) p due order old =
-    record { counts = lists_moved (read_moved (returns_of p.driver) n) old.counts; kinds = old.kinds; bell = old.bell }
-due_counted (rows.Harvest e t found) p due order old =
-    quiet p (rows.Harvest e t found) due.idle old refl refl refl (harvest_row p e t found due old)
 due_counted rows.Rest p due order old = old
+due_counted row p due order old = record {
+  counts = due_counts row p refl due order old;
+  kinds = idle_kinds (after_driver_row row p).driver (stays_idle row p due refl refl);
+  bell = due_bell row p old;
+}
 
 pub events_keep_counts : EventsKeepCounts
 events_keep_counts p order old = due_counted (driver_row p) p (each_event_is_due p) order old

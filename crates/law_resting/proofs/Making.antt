@@ -23,9 +23,7 @@ use Rattle.drv_table.specs.Rows.{driver_row, after_driver_row}
 use Rattle.law_driver.specs.run_owners.Accepts.{Accepts, opens, chains, places, transfers, describes, cancels, unchains}
 use Rattle.law_driver.specs.run_owners.Due.{IsDue}
 use Rattle.law_driver.proofs.lemmas.run_owners.Commands.{each_command_has_its_reason}
-use Rattle.law_driver.proofs.lemmas.run_owners.Reasons.{each_event_is_due}
-use Rattle.law_footprints.proofs.Fields.{command_stays}
-use Rattle.law_footprints.specs.Footprint.{footprint}
+use Rattle.law_driver.proofs.lemmas.run_owners.Reasons.{each_event_is_due, stays_idle}
 use Rattle.law_resting.specs.Making.{IsMaking, IsMakingAt, NewDriverIsMaking, EventsKeepMaking, CommandsKeepMaking}
 
 -- where no command is unfinished, or it is one of the frame list
@@ -85,27 +83,14 @@ framed_making d n (Some (unfinished.Iso e t count)) old =
     advance_making (with_notes d n (take count (drop t d.transfers)) (framed_notes d n e t count (placement_at d e))) old
 framed_making d n _ old = old
 
-idle_row : (row : DriverRow) (p : Parts) → p.driver.command ≡ None → (footprint row p.driver.command).command ≡ false
-    → IsMaking (after_driver_row row p).driver
-idle_row row p idle misses = none_making (after_driver_row row p).driver (command_stays row p p.driver.command refl misses ∙ idle)
-
 due_making : (row : DriverRow) (p : Parts) → IsDue p row → IsMaking p.driver → IsMaking (after_driver_row row p).driver
 due_making rows.Lend p due old = advance_making (record p.driver { book = (lend_taken (holding p.driver.book p.memory)).book }) old
 due_making (rows.Store b at v) p due old = advance_making p.driver old
-due_making (rows.Mend w) p due old = idle_row (rows.Mend w) p due.0 refl
 due_making rows.Frames p due old = framed_making p.driver p.registers.frame_index p.driver.command old
 due_making rows.LendDescriptors p due old =
     advance_making (record p.driver { book = (lend_taken (holding p.driver.book (linked_by p.driver p.memory p.driver.command))).book }) old
-due_making (rows.Unlink t) p due old = idle_row (rows.Unlink t) p due.idle refl
-due_making (rows.ReleaseRemoved what) p due old = idle_row (rows.ReleaseRemoved what) p due.idle refl
-due_making (rows.ReleaseTransfer t) p due old = idle_row (rows.ReleaseTransfer t) p due.idle refl
-due_making (rows.ReleaseEndpoint e) p due old = idle_row (rows.ReleaseEndpoint e) p due.idle refl
-due_making rows.ClearAdvance p due old = idle_row rows.ClearAdvance p due.0 refl
-due_making rows.RingBell p due old = idle_row rows.RingBell p due.0 refl
-due_making (rows.ReadStatus heard) p due old = idle_row (rows.ReadStatus heard) p due.0 refl
-due_making (rows.ReadFrame n) p due old = idle_row (rows.ReadFrame n) p due.0 refl
-due_making (rows.Harvest e t found) p due old = idle_row (rows.Harvest e t found) p due.idle refl
 due_making rows.Rest p due old = old
+due_making row p due old = none_making (after_driver_row row p).driver (stays_idle row p due refl refl)
 
 pub events_keep_making : EventsKeepMaking
 events_keep_making p old = due_making (driver_row p) p (each_event_is_due p) old

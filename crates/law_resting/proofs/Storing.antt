@@ -30,9 +30,8 @@ use Rattle.drv_table.specs.Rows.{driver_row, after_driver_row}
 use Rattle.law_driver.specs.run_owners.Accepts.{Accepts, opens, chains, places, transfers, describes, cancels, unchains}
 use Rattle.law_driver.specs.run_owners.Due.{IsDue}
 use Rattle.law_driver.proofs.lemmas.run_owners.Commands.{each_command_has_its_reason}
-use Rattle.law_driver.proofs.lemmas.run_owners.Reasons.{each_event_is_due}
-use Rattle.law_footprints.proofs.Fields.{command_stays, list_stays}
-use Rattle.law_footprints.specs.Footprint.{footprint}
+use Rattle.law_driver.proofs.lemmas.run_owners.Reasons.{each_event_is_due, stays_idle}
+use Rattle.law_footprints.proofs.Fields.{list_stays}
 use Rattle.law_resting.specs.Storing.{IsLeft, IsWorking, IsStoringAt, IsStoring, NewDriverIsStoring, EventsKeepStoring, CommandsKeepStoring}
 use Rattle.law_resting.proofs.Making.{finished_none}
 
@@ -155,13 +154,6 @@ framed_storing d n (Some (unfinished.Iso e t count)) old =
     advance_storing (with_notes d n (take count (drop t d.transfers)) (framed_notes d n e t count (placement_at d e))) old
 framed_storing d n _ old = old
 
-idle_row : (row : DriverRow) (p : Parts) → p.driver.command ≡ None → (footprint row p.driver.command).command ≡ false
-    → (footprint row p.driver.command).list ≡ false → IsStoring p.driver → IsStoring (after_driver_row row p).driver
-idle_row row p idle misses lists old =
-    none_storing (after_driver_row row p).driver.command (after_driver_row row p).driver.made (after_driver_row row p).driver.periodic.list
-    (command_stays row p p.driver.command refl misses ∙ idle)
-    (subst IsWorking (sym (list_stays row p p.driver.command refl lists)) old.1)
-
 unlink_storing : (p : Parts) (t : ℕ) (o : Option Transfer) → p.driver.command ≡ None → IsStoring p.driver
     → IsStoring (after_unlink p t o).driver
 unlink_storing p t None idle old = old
@@ -172,21 +164,15 @@ unlink_storing p t (Some x) idle old =
 due_storing : (row : DriverRow) (p : Parts) → IsDue p row → IsStoring p.driver → IsStoring (after_driver_row row p).driver
 due_storing rows.Lend p due old = advance_storing (record p.driver { book = (lend_taken (holding p.driver.book p.memory)).book }) old
 due_storing (rows.Store b at v) p due old = advance_storing p.driver old
-due_storing (rows.Mend w) p due old = idle_row (rows.Mend w) p due.0 refl refl old
 due_storing rows.Frames p due old = framed_storing p.driver p.registers.frame_index p.driver.command old
 due_storing rows.LendDescriptors p due old =
     advance_storing (record p.driver { book = (lend_taken (holding p.driver.book (linked_by p.driver p.memory p.driver.command))).book })
     old
 due_storing (rows.Unlink t) p due old = unlink_storing p t (slice_get p.driver.transfers t) due.idle old
-due_storing (rows.ReleaseRemoved what) p due old = idle_row (rows.ReleaseRemoved what) p due.idle refl refl old
-due_storing (rows.ReleaseTransfer t) p due old = idle_row (rows.ReleaseTransfer t) p due.idle refl refl old
-due_storing (rows.ReleaseEndpoint e) p due old = idle_row (rows.ReleaseEndpoint e) p due.idle refl refl old
-due_storing rows.ClearAdvance p due old = idle_row rows.ClearAdvance p due.0 refl refl old
-due_storing rows.RingBell p due old = idle_row rows.RingBell p due.0 refl refl old
-due_storing (rows.ReadStatus heard) p due old = idle_row (rows.ReadStatus heard) p due.0 refl refl old
-due_storing (rows.ReadFrame n) p due old = idle_row (rows.ReadFrame n) p due.0 refl refl old
-due_storing (rows.Harvest e t found) p due old = idle_row (rows.Harvest e t found) p due.idle refl refl old
 due_storing rows.Rest p due old = old
+due_storing row p due old =
+    none_storing (after_driver_row row p).driver.command (after_driver_row row p).driver.made (after_driver_row row p).driver.periodic.list
+    (stays_idle row p due refl refl) (subst IsWorking (sym (list_stays row p p.driver.command refl refl)) old.1)
 
 pub events_keep_storing : EventsKeepStoring
 events_keep_storing p old = due_storing (driver_row p) p (each_event_is_due p) old

@@ -327,22 +327,10 @@ quiet row p reports store =
     (sym (store_stays row p p.driver.command refl store)) nothing)
 
 due_told : (row : DriverRow) (p : Parts) → IsDue p row → ToldAfter p (after_driver_row row p).driver
-due_told rows.Lend p due = quiet rows.Lend p refl refl
-due_told (rows.Store b at v) p due = quiet (rows.Store b at v) p refl refl
-due_told (rows.Mend w) p due = quiet (rows.Mend w) p refl refl
-due_told rows.Frames p due = quiet rows.Frames p refl refl
-due_told rows.LendDescriptors p due = quiet rows.LendDescriptors p refl refl
-due_told (rows.Unlink t) p due = quiet (rows.Unlink t) p refl refl
-due_told (rows.ReleaseRemoved (removed.Descriptor t)) p due = quiet (rows.ReleaseRemoved (removed.Descriptor t)) p refl refl
 due_told (rows.ReleaseRemoved (removed.Endpoint e)) p due = placed_told p e (slice_get p.driver.endpoints e) refl
-due_told (rows.ReleaseTransfer t) p due = quiet (rows.ReleaseTransfer t) p refl refl
 due_told (rows.ReleaseEndpoint e) p due = endpoint_told p e (slice_get p.driver.endpoints e) refl
-due_told rows.ClearAdvance p due = quiet rows.ClearAdvance p refl refl
-due_told rows.RingBell p due = quiet rows.RingBell p refl refl
-due_told (rows.ReadStatus heard) p due = quiet (rows.ReadStatus heard) p refl refl
-due_told (rows.ReadFrame n) p due = quiet (rows.ReadFrame n) p refl refl
 due_told (rows.Harvest e t found) p due = harvest_told p e t found due
-due_told rows.Rest p due = nothing
+due_told row p due = quiet row p refl refl
 
 pub drivers_tell_for_reasons : DriversTellForReasons
 drivers_tell_for_reasons p = due_told (driver_row p) p (each_event_is_due p)

@@ -395,24 +395,14 @@ module _ (p : Parts) (e t : ℕ) (found : Found) (due : IsHarvestDue p e t found
 -- ---- any event
 
 due_kept : (row : DriverRow) (p : Parts) → IsDue p row → KeepsTransfers row p (after_driver_row row p).driver
-due_kept rows.Lend p due = quiet rows.Lend p tt refl refl
-due_kept (rows.Store b at v) p due = quiet (rows.Store b at v) p tt refl refl
-due_kept (rows.Mend w) p due = quiet (rows.Mend w) p tt refl refl
-due_kept rows.Frames p due = quiet rows.Frames p tt refl refl
-due_kept rows.LendDescriptors p due = quiet rows.LendDescriptors p tt refl refl
-due_kept (rows.Unlink t) p due = quiet (rows.Unlink t) p tt refl refl
 due_kept (rows.ReleaseRemoved (removed.Descriptor t)) p due = descriptor_kept p t (slice_get p.driver.transfers t) refl
 due_kept (rows.ReleaseRemoved (removed.Endpoint e)) p due = placed_kept p e (slice_get p.driver.endpoints e)
 due_kept (rows.ReleaseTransfer t) p due =
     transfer_kept p t (slice_get p.driver.transfers t)
     (freed_by p.driver (holding p.driver.book p.memory) (slice_get p.driver.transfers t)) refl
 due_kept (rows.ReleaseEndpoint e) p due = endpoint_kept p e (slice_get p.driver.endpoints e)
-due_kept rows.ClearAdvance p due = quiet rows.ClearAdvance p tt refl refl
-due_kept rows.RingBell p due = quiet rows.RingBell p tt refl refl
-due_kept (rows.ReadStatus heard) p due = quiet (rows.ReadStatus heard) p tt refl refl
-due_kept (rows.ReadFrame n) p due = quiet (rows.ReadFrame n) p tt refl refl
 due_kept (rows.Harvest e t found) p due = harvest_kept p e t found due
-due_kept rows.Rest p due = still_kept rows.Rest p p.driver tt refl (all_same IsStill same_still p.driver.transfers)
+due_kept row p due = quiet row p tt refl refl
 
 pub events_keep_transfers : EventsKeepTransfers
 events_keep_transfers p = due_kept (driver_row p) p (each_event_is_due p)

@@ -39,19 +39,13 @@ use Rattle.law_driver.specs.queued_drivers.Queued.{queued, queued_parts, QueuesT
 abbrev pub IsOfQueues : Parts → DriverRow → Type 0
 IsOfQueues p rows.Lend = p.driver.command ≢ Some unfinished.Chain
 IsOfQueues p (rows.Store b at v) = IsNextOf p (rows.Store b at v)
-IsOfQueues p (rows.Mend w) = Unit {0}
 IsOfQueues p rows.Frames = ⊥
 IsOfQueues p rows.LendDescriptors = ⊥
 IsOfQueues p (rows.Unlink t) = ⊥
 IsOfQueues p (rows.ReleaseRemoved what) = ⊥
 IsOfQueues p (rows.ReadFrame n) = ⊥
-IsOfQueues p (rows.ReleaseTransfer t) = Unit {0}
-IsOfQueues p (rows.ReleaseEndpoint e) = Unit {0}
-IsOfQueues p rows.ClearAdvance = Unit {0}
-IsOfQueues p rows.RingBell = Unit {0}
-IsOfQueues p (rows.ReadStatus heard) = Unit {0}
 IsOfQueues p (rows.Harvest e t found) = (y : Transfer) → slice_get p.driver.transfers t ≡ Some y → is_descriptor y.sort ≡ false
-IsOfQueues p rows.Rest = Unit {0}
+IsOfQueues p _ = Unit {0}
 
 pub record IsToldAlike (p : Parts) (row : DriverRow) : Type 0 where
   pub due : IsDue (queued_parts p) row
@@ -115,22 +109,15 @@ pub record IsListStore (p : Parts) (row : DriverRow) : Type 0 where
   pub goes_on : p.driver.command ≡ Some unfinished.Chain → (after_driver_row row p).driver.command ≢ None
 
 abbrev pub IsOfFrames : Parts → DriverRow → Type 0
-IsOfFrames p rows.Lend = ⊥
 IsOfFrames p (rows.Store b at v) = IsListStore p (rows.Store b at v)
-IsOfFrames p (rows.Mend w) = ⊥
 IsOfFrames p rows.Frames = Unit {0}
 IsOfFrames p rows.LendDescriptors = Unit {0}
 IsOfFrames p (rows.Unlink t) = Unit {0}
 IsOfFrames p (rows.ReleaseRemoved (removed.Descriptor t)) = Unit {0}
 IsOfFrames p (rows.ReleaseRemoved (removed.Endpoint e)) = (x : Endpoint) → slice_get p.driver.endpoints e ≡ Some x → is_iso x.desc.kind ≡ true
 IsOfFrames p (rows.ReadFrame n) = Unit {0}
-IsOfFrames p (rows.ReleaseTransfer t) = ⊥
-IsOfFrames p (rows.ReleaseEndpoint e) = ⊥
-IsOfFrames p rows.ClearAdvance = ⊥
-IsOfFrames p rows.RingBell = ⊥
-IsOfFrames p (rows.ReadStatus heard) = ⊥
 IsOfFrames p (rows.Harvest e t found) = (y : Transfer) → slice_get p.driver.transfers t ≡ Some y → is_descriptor y.sort ≡ true
-IsOfFrames p rows.Rest = ⊥
+IsOfFrames p _ = ⊥
 
 abbrev pub keeps_book : DriverRow → Bool
 keeps_book rows.LendDescriptors = false

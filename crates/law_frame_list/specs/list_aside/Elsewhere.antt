@@ -12,18 +12,8 @@ links_now None = false
 links_now (Some c) = links c
 
 abbrev pub is_elsewhere : Option Command → DriverRow → Bool
-is_elsewhere o rows.Lend = true
 is_elsewhere o (rows.Store b at v) = not (links_now o)
 is_elsewhere o (rows.Mend w) = false
-is_elsewhere o (rows.ReleaseTransfer t) = true
-is_elsewhere o (rows.ReleaseEndpoint e) = true
-is_elsewhere o rows.ClearAdvance = true
-is_elsewhere o rows.RingBell = true
-is_elsewhere o (rows.ReadStatus heard) = true
-is_elsewhere o (rows.ReadFrame n) = true
-is_elsewhere o rows.Frames = true
 is_elsewhere o rows.LendDescriptors = false
 is_elsewhere o (rows.Unlink t) = false
-is_elsewhere o (rows.ReleaseRemoved what) = true
-is_elsewhere o (rows.Harvest e t found) = true
-is_elsewhere o rows.Rest = true
+is_elsewhere o _ = true

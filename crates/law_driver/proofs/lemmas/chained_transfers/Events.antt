@@ -1,5 +1,5 @@
 -- Each event of the driver leaves its transfers chained and in turn, where endpoints leave the ring, and where none does.
-use Rattle.std.proofs.Common.{◌≡◌, ℕ, zero, suc, Bool, true, false, not, ◌||◌, ◌&&◌, ◌==◌, cond, nat_le, List, [], ◌++◌, map, set, drop, slice_get, Option, Some, None, ap, sym, subst, ◌∙◌, refl, arith}
+use Rattle.std.proofs.Common.{◌≡◌, ℕ, zero, suc, Bool, true, false, not, ◌||◌, ◌&&◌, ◌==◌, cond, nat_le, List, [], ◌++◌, map, set, slice_get, Option, Some, None, ap, sym, subst, ◌∙◌, refl, arith}
 use Rattle.std.proofs.lemmas.Bool.{false≢true}
 use Rattle.law_common.proofs.Lists.{none_there}
 use Rattle.law_driver.proofs.Common.{transfer_mends}
@@ -10,7 +10,6 @@ use Rattle.drv_table.specs.declared.content.Endpoint.{Endpoint}
 use Rattle.drv_table.specs.declared.content.Transfer.{Transfer}
 use Rattle.drv_table.specs.declared.content.Mend.{Mend}
 use Rattle.drv_table.specs.declared.content.Bell.{Bell}
-use Rattle.drv_table.specs.declared.content.Bell.TheVariants as bells
 use Rattle.drv_table.specs.declared.content.Turn.TheVariants as turns
 use Rattle.drv_table.specs.declared.content.Command.{Command}
 use Rattle.drv_table.specs.declared.content.Command.TheVariants as unfinished
@@ -26,7 +25,6 @@ use Rattle.drv_table.specs.Harvests.{note_at, token_in, found_in, reported}
 use Rattle.drv_table.specs.Parts.{Parts}
 use Rattle.drv_table.specs.Commands.{events_of, advance}
 use Rattle.drv_table.specs.Releases.{after_transfer, freed_by, ended_by_cancel, is_told, let_go, free_endpoint, cancelled_bytes, gone_with, after_endpoint}
-use Rattle.drv_table.specs.Leaving.{bell_after}
 use Rattle.drv_table.specs.Harvesting.{after_harvest}
 use Rattle.drv_table.specs.Rows.{driver_row, after_driver_row}
 use Rattle.law_driver.specs.run_owners.Due.{IsDue, IsHarvestDue, IsEndpointDue}
@@ -313,24 +311,19 @@ due_leaves (rows.Store b at v) p due order old = record {
   };
   descs = advanced_descs p.driver old.asynchronous.command;
 }
-due_leaves (rows.Mend w) p due order old =
-    let d = p.driver in quiet d (drop 1 d.mends) d.waiting d.rung d.cleared d.bell d.periodic.status_next d.periodic.removals old.asynchronous.removals old
 due_leaves rows.Frames p due order old = absurd ((no_frames due.command p.driver.made (unfinished_one p.driver due.command due.unfinished old.asynchronous.command)).0 due.next)
 due_leaves rows.LendDescriptors p due order old = absurd ((no_frames due.command p.driver.made (unfinished_one p.driver due.command due.unfinished old.asynchronous.command)).1 due.next)
 due_leaves (rows.Unlink t) p due order old = absurd (none_there p.driver.periodic.unlinks t old.asynchronous.unlinks due.first)
 due_leaves (rows.ReleaseRemoved what) p due order old = absurd (none_there p.driver.periodic.removals due.removal old.asynchronous.removals due.first)
 due_leaves (rows.ReleaseTransfer t) p due order old = release_row p t due.first order old
 due_leaves (rows.ReleaseEndpoint e) p due order old = release_endpoint p e due order old
-due_leaves rows.ClearAdvance p due order old =
-    let d = p.driver in quiet d d.mends d.waiting [] (d.cleared ++ d.rung) bells.Quiet d.periodic.status_next d.periodic.removals old.asynchronous.removals old
-due_leaves rows.RingBell p due order old =
-    let d = p.driver in quiet d d.mends [] (d.rung ++ d.waiting) d.cleared bells.Rung d.periodic.status_next d.periodic.removals old.asynchronous.removals old
-due_leaves (rows.ReadStatus heard) p due order old =
-    let d = p.driver in quiet d d.mends d.waiting d.rung d.cleared (bell_after heard) false d.periodic.removals old.asynchronous.removals old
 due_leaves (rows.ReadFrame n) p due order old =
     let d = p.driver in quiet d d.mends d.waiting d.rung d.cleared d.bell true (read_again n d.periodic.removals) (ap (read_again n) old.asynchronous.removals) old
 due_leaves (rows.Harvest e t found) p due order old = harvest_leaves p e t found due old.asynchronous old
 due_leaves rows.Rest p due order old = record { turns = old; descs = descs_same p.driver.endpoints }
+due_leaves row p due order old =
+    let n = (after_driver_row row p).driver in
+    quiet p.driver n.mends n.waiting n.rung n.cleared n.bell n.periodic.status_next p.driver.periodic.removals old.asynchronous.removals old
 
 pub events_keep_asynchronous_turns : (p : Parts) → HasOwners p.driver → AsynchronousTakesTurns p.driver → AsynchronousTakesTurns (after_driver_row (driver_row p) p).driver
 events_keep_asynchronous_turns p owners old = (due_leaves (driver_row p) p (each_event_is_due p) owners.orderly old).turns

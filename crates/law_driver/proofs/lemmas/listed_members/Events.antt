@@ -195,28 +195,22 @@ row_listed rows.Lend p due has old =
 row_listed (rows.Store b at v) p (inl due) has old =
     goes_on p.driver due.command due.unfinished (no_frames due.command p.driver.made (rows.Store b at v) due.next (λ same. absurd (cc))) (owns p.driver has) old
 row_listed (rows.Store b at v) p (inr due) has old = goes_on p.driver due.command due.unfinished (behind_them due.command p.driver.made due.late) (owns p.driver has) old
-row_listed (rows.Mend w) p due has old =
-    quiet_listed p.driver _ (record { periodic = refl; endpoints = all_endpoints p.driver.endpoints; transfers = all_transfers p.driver.transfers; room = refl; calm = λ c. c }) (ap is_calm due.0) old
 row_listed rows.Frames p due has old = framed_row p.driver p.registers.frame_index due.command due.unfinished due.next (owns p.driver has) old
 row_listed rows.LendDescriptors p due has old =
     let k = (lend_taken (holding p.driver.book (linked_by p.driver p.memory p.driver.command))).book in
     goes_on (record p.driver { book = k }) due.command due.unfinished (no_frames due.command p.driver.made rows.LendDescriptors due.next (λ same. absurd (cc))) (book_owns p.driver k (owns p.driver has)) (with_book p.driver k old)
 row_listed (rows.Unlink t) p due has old = unlinked_listed p t (slice_get p.driver.transfers t) (owns p.driver has) has.orderly refl due.first (ap is_calm due.idle) old
 row_listed (rows.ReleaseRemoved what) p due has old = removed_listed p what due has.orderly (ap is_calm due.idle) old
-row_listed (rows.ReadFrame n) p due has old =
-    calm_listed p.driver _ (tables p.driver _ refl refl refl (all_endpoints p.driver.endpoints) (all_transfers p.driver.transfers) refl) (λ idle. record { work = idle.work; queued = idle.queued }) (ap is_calm due.0) (ap is_calm due.0) old
 row_listed (rows.ReleaseTransfer t) p due has old = transfer_listed p t (slice_get p.driver.transfers t) refl (ap is_calm due.idle) old
 row_listed (rows.ReleaseEndpoint e) p due has old = endpoint_listed p e (slice_get p.driver.endpoints e) refl due.first has.orderly (ap is_calm due.idle) old
-row_listed rows.ClearAdvance p due has old =
-    quiet_listed p.driver _ (record { periodic = refl; endpoints = all_endpoints p.driver.endpoints; transfers = all_transfers p.driver.transfers; room = refl; calm = λ c. c }) (ap is_calm due.0) old
-row_listed rows.RingBell p due has old =
-    quiet_listed p.driver _ (record { periodic = refl; endpoints = all_endpoints p.driver.endpoints; transfers = all_transfers p.driver.transfers; room = refl; calm = λ c. c }) (ap is_calm due.0) old
-row_listed (rows.ReadStatus heard) p due has old =
-    calm_listed p.driver _ (tables p.driver _ refl refl refl (all_endpoints p.driver.endpoints) (all_transfers p.driver.transfers) refl) (λ idle. record { work = idle.work; queued = idle.queued }) (ap is_calm due.0) (ap is_calm due.0) old
 row_listed (rows.Harvest e t found) p due has old =
     subst (λ (o : Option Endpoint). IsListed (after_harvest p.driver p.memory e t found o (slice_get p.driver.transfers t))) (sym due.here)
     (subst (λ (o : Option Transfer). IsListed (after_harvest p.driver p.memory e t found (Some due.endpoint) o)) (sym due.there) (harvest_listed p e t found due has.orderly old))
 row_listed rows.Rest p due has old = old
+row_listed row p due has old =
+    calm_listed p.driver _
+    (tables p.driver _ refl refl refl (all_endpoints p.driver.endpoints) (all_transfers p.driver.transfers) refl)
+    (λ idle. record { work = idle.work; queued = idle.queued }) (ap is_calm due.0) (ap is_calm due.0) old
 
 pub events_keep_the_list : (p : Parts) → HasOwners p.driver → IsListed p.driver → IsListed (after_driver_row (driver_row p) p).driver
 events_keep_the_list p has old = row_listed (driver_row p) p (each_event_is_due p) has old

@@ -453,7 +453,6 @@ row_fixed (rows.Harvest e t found) p due stands shape has after apart ring old =
     fixed_same p.memory p.memory p.driver (after_driver_row (rows.Harvest e t found) p).driver s.endpoints
     (λ f a. subst (λ (vs : List ℕ). IsAmong f (p.driver.rung ++ vs)) s.waiting (subst (λ (vs : List ℕ). IsAmong f (vs ++ (after_driver_row (rows.Harvest e t found) p).driver.waiting)) s.rung a))
     (λ f x here met. words_same p.memory p.memory x.queue refl) (words_same p.memory p.memory head_block refl) old
-row_fixed rows.Rest p due stands shape has after apart ring old = old
 row_fixed _ p due stands shape has after apart ring old = record { each = old.each; head = old.head }
 
 pub events_keep_the_fixed_words : (p : Parts) → IsSound p.memory p.driver → AreFixed p.memory p.driver → AreFixed (after_driver_row (driver_row p) p).memory (after_driver_row (driver_row p) p).driver

@@ -285,7 +285,6 @@ row_told (rows.Store b at v) p owners old due next =
       due = inl (next_told p (rows.Store b at v) c next.unfinished next.next is);
       same = ap (λ (f : DriverContent). record (queued_parts p) { driver = f; memory = store d.book p.memory b at v }) (advance_told d c next.unfinished is (leaves_told d c next.unfinished old));
     }
-row_told (rows.Mend w) p owners old due of_queue = record { due = (idle_told p.driver due.0, due.1); same = refl }
 row_told rows.Frames p owners old due of_queue = absurd of_queue
 row_told rows.LendDescriptors p owners old due of_queue = absurd of_queue
 row_told (rows.Unlink t) p owners old due of_queue = absurd of_queue
@@ -306,8 +305,7 @@ row_told (rows.ReleaseEndpoint e) p owners old due of_queue =
       due = record { idle = idle_told p.driver due.idle; first = due.first; none_before = due.none_before };
       same = endpoint_row_told e l.endpoint l.ring p l.here (no_descriptors p.driver e l.endpoint l.here (ring_queue l.endpoint.desc.kind l.ring) owners.orderly);
     }
-row_told rows.ClearAdvance p owners old due of_queue = record { due = (idle_told p.driver due.0, due.1); same = refl }
-row_told rows.RingBell p owners old due of_queue = record { due = (idle_told p.driver due.0, due.1); same = refl }
 row_told (rows.ReadStatus heard) p owners old due of_queue = record { due = (idle_told p.driver due.0, due.1, due.2); same = refl }
 row_told (rows.Harvest e t found) p owners old due of_queue = harvest_told p e t found owners old due of_queue
 row_told rows.Rest p owners old due of_queue = record { due = tt; same = refl }
+row_told row p owners old due of_queue = record { due = (idle_told p.driver due.0, due.1); same = refl }

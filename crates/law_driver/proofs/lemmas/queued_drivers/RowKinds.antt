@@ -36,7 +36,6 @@ event_kind (rows.Store b at v) p owners (inr link) = by (advance p.driver).comma
     by None is = ⊎_elim
         (λ (chain : link.command ≡ unfinished.Chain). finishes_chain (record { chain = link.unfinished ∙ ap (λ (c : Command). Some c) chain; finished = is }))
         (λ (other : link.command ≢ unfinished.Chain). of_frames (record { link = link; goes_on = λ chain none. absurd (not_chain p link.command link.unfinished other chain) })) (is_chain link.command)
-event_kind (rows.Mend w) p owners due = of_queues tt
 event_kind rows.Frames p owners due = of_frames tt
 event_kind rows.LendDescriptors p owners due = of_frames tt
 event_kind (rows.Unlink t) p owners due = of_frames tt
@@ -48,15 +47,10 @@ event_kind (rows.ReleaseRemoved (removed.Endpoint e)) p owners due =
     (λ (queue : is_iso l.endpoint.desc.kind ≡ false). gives_back (record { number = e; endpoint = l.endpoint; is = refl; here = l.here; queue = queue }))
     (cases_Bool (is_iso l.endpoint.desc.kind))
 event_kind (rows.ReadFrame n) p owners due = of_frames tt
-event_kind (rows.ReleaseTransfer t) p owners due = of_queues tt
-event_kind (rows.ReleaseEndpoint e) p owners due = of_queues tt
-event_kind rows.ClearAdvance p owners due = of_queues tt
-event_kind rows.RingBell p owners due = of_queues tt
-event_kind (rows.ReadStatus heard) p owners due = of_queues tt
 event_kind (rows.Harvest e t found) p owners due =
     let same = λ (y : Transfer) (there : slice_get p.driver.transfers t ≡ Some y). ap (λ (z : Transfer). is_descriptor z.sort) (same_Some y due.transfer (sym there ∙ due.there)) in
     ⊎_elim
     (λ (is : is_descriptor due.transfer.sort ≡ true). of_frames (λ y there. same y there ∙ is))
     (λ (moves : is_descriptor due.transfer.sort ≡ false). of_queues (λ y there. same y there ∙ moves))
     (cases_Bool (is_descriptor due.transfer.sort))
-event_kind rows.Rest p owners due = of_queues tt
+event_kind row p owners due = of_queues tt

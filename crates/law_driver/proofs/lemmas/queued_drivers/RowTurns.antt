@@ -331,7 +331,6 @@ module _ (p : Parts) (owners : HasOwners p.driver) (old : QueuesTakeTurns p.driv
           (λ (other : link.command ≢ unfinished.Chain).
           left_keeps (rows.Store b at v) (frames_leave (rows.Store b at v) p owners old (inr link) (record { link = link; goes_on = λ chain none. absurd (not_chain p link.command link.unfinished other chain) })))
           (is_chain link.command)
-  row_keeps (rows.Mend w) due = told_keeps (rows.Mend w) (row_told (rows.Mend w) p owners old due tt)
   row_keeps rows.Frames due = left_keeps rows.Frames (frames_leave rows.Frames p owners old due tt)
   row_keeps rows.LendDescriptors due = left_keeps rows.LendDescriptors (frames_leave rows.LendDescriptors p owners old due tt)
   row_keeps (rows.Unlink t) due = left_keeps (rows.Unlink t) (frames_leave (rows.Unlink t) p owners old due tt)
@@ -347,11 +346,6 @@ module _ (p : Parts) (owners : HasOwners p.driver) (old : QueuesTakeTurns p.driv
       alike_keeps (after_driver_row release (out_parts p e)).driver (after_driver_row row p).driver g.queues (due_leaves release (out_parts p e) g.due g.owners.orderly g.turns).turns (due_orderly release (out_parts p e) g.due g.owners.orderly))
       (cases_Bool (is_iso l.endpoint.desc.kind))
   row_keeps (rows.ReadFrame n) due = left_keeps (rows.ReadFrame n) (frames_leave (rows.ReadFrame n) p owners old due tt)
-  row_keeps (rows.ReleaseTransfer t) due = told_keeps (rows.ReleaseTransfer t) (row_told (rows.ReleaseTransfer t) p owners old due tt)
-  row_keeps (rows.ReleaseEndpoint e) due = told_keeps (rows.ReleaseEndpoint e) (row_told (rows.ReleaseEndpoint e) p owners old due tt)
-  row_keeps rows.ClearAdvance due = told_keeps rows.ClearAdvance (row_told rows.ClearAdvance p owners old due tt)
-  row_keeps rows.RingBell due = told_keeps rows.RingBell (row_told rows.RingBell p owners old due tt)
-  row_keeps (rows.ReadStatus heard) due = told_keeps (rows.ReadStatus heard) (row_told (rows.ReadStatus heard) p owners old due tt)
   row_keeps (rows.Harvest e t found) due =
       let row = rows.Harvest e t found in
       let same = λ (y : Transfer) (there : slice_get p.driver.transfers t ≡ Some y). ap (λ (z : Transfer). is_descriptor z.sort) (same_Some y due.transfer (sym there ∙ due.there)) in
@@ -359,7 +353,7 @@ module _ (p : Parts) (owners : HasOwners p.driver) (old : QueuesTakeTurns p.driv
       (λ (is : is_descriptor due.transfer.sort ≡ true). left_keeps row (frames_leave row p owners old due (λ y there. same y there ∙ is)))
       (λ (moves : is_descriptor due.transfer.sort ≡ false). told_keeps row (row_told row p owners old due (λ y there. same y there ∙ moves)))
       (cases_Bool (is_descriptor due.transfer.sort))
-  row_keeps rows.Rest due = told_keeps rows.Rest (row_told rows.Rest p owners old due tt)
+  row_keeps row due = told_keeps row (row_told row p owners old due tt)
 
 some_times : (i n : ℕ) (ns : List ℕ) → slice_get ns i ≡ Some n → 1 ≤ times n ns
 some_times i n [] at = absurd (cc)

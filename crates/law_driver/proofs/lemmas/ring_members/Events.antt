@@ -690,7 +690,6 @@ row_ring (rows.Harvest e t found) p due stands shape has after apart old =
     let s = harvest_stays p.driver p.memory e t found (slice_get p.driver.endpoints e) (slice_get p.driver.transfers t) refl in
     idle_ring (link_in p.memory) (link_in p.memory) p.driver _ due.idle (s.command ∙ due.idle) after (λ c run. refl) s.endpoints
     (same_leaving (link_in p.memory) p.driver.endpoints p.driver.rung _ p.driver.waiting _ s.rung s.waiting old.leaving) (s.mends old.mends) old
-row_ring rows.Rest p due stands shape has after apart old = old
 row_ring _ p due stands shape has after apart old = record { ring = old.ring; leaving = old.leaving; mends = old.mends; kept = old.kept }
 
 pub events_keep_the_ring : (p : Parts) → IsSound p.memory p.driver → IsRing (link_in (after_driver_row (driver_row p) p).memory) (after_driver_row (driver_row p) p).driver

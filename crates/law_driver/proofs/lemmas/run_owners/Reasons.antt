@@ -28,7 +28,9 @@ use Rattle.drv_table.specs.Parts.{Parts}
 use Rattle.drv_table.specs.Commands.{store_order, events_of, links, command_row, link_row}
 use Rattle.drv_table.specs.Leaving.{tells_advance, removes, reading_for, bell_row, removal_row, first_row, leaving_row}
 use Rattle.drv_table.specs.Harvesting.{found_of, worker_from, first_of_two, next_worker, reading_row, transfer_row, worker_row, harvest_row}
-use Rattle.drv_table.specs.Rows.{turn_row, row_for, driver_row}
+use Rattle.drv_table.specs.Rows.{turn_row, row_for, driver_row, after_driver_row}
+use Rattle.law_footprints.specs.Footprint.{footprint}
+use Rattle.law_footprints.proofs.Fields.{command_stays}
 use Rattle.law_driver.specs.run_owners.Due.{IsDue}
 
 -- ---- the command
@@ -36,19 +38,9 @@ use Rattle.law_driver.specs.run_owners.Due.{IsDue}
 abbrev IsCommandRow : DriverRow → Type 0
 IsCommandRow rows.Lend = Unit {0}
 IsCommandRow (rows.Store b at v) = Unit {0}
-IsCommandRow (rows.Mend w) = ⊥
 IsCommandRow rows.Frames = Unit {0}
 IsCommandRow rows.LendDescriptors = Unit {0}
-IsCommandRow (rows.Unlink t) = ⊥
-IsCommandRow (rows.ReleaseRemoved what) = ⊥
-IsCommandRow (rows.ReadFrame n) = ⊥
-IsCommandRow (rows.ReleaseTransfer t) = ⊥
-IsCommandRow (rows.ReleaseEndpoint e) = ⊥
-IsCommandRow rows.ClearAdvance = ⊥
-IsCommandRow rows.RingBell = ⊥
-IsCommandRow (rows.ReadStatus heard) = ⊥
-IsCommandRow (rows.Harvest e t found) = ⊥
-IsCommandRow rows.Rest = ⊥
+IsCommandRow _ = ⊥
 
 stored_are : (f : ℕ → DriverRow) (o : Option ℕ) (row : DriverRow) → ((i : ℕ) → IsCommandRow (f i)) → option_map f o ≡ Some row → IsCommandRow row
 stored_are f None row each e = absurd (cc)
@@ -231,3 +223,31 @@ due_for p None is = due_turn p p.driver.turn is
 
 pub each_event_is_due : (p : Parts) → IsDue p (driver_row p)
 each_event_is_due p = due_for p p.driver.command refl
+
+-- ---- rows that come only where no command is unfinished
+
+abbrev pub comes_idle : DriverRow → Bool
+comes_idle rows.Lend = false
+comes_idle (rows.Store b at v) = false
+comes_idle rows.Frames = false
+comes_idle rows.LendDescriptors = false
+comes_idle rows.Rest = false
+comes_idle _ = true
+
+pub idle_due : (row : DriverRow) (p : Parts) → IsDue p row → comes_idle row ≡ true → p.driver.command ≡ None
+idle_due rows.Lend p due idle = absurd (false≢true idle)
+idle_due (rows.Store b at v) p due idle = absurd (false≢true idle)
+idle_due rows.Frames p due idle = absurd (false≢true idle)
+idle_due rows.LendDescriptors p due idle = absurd (false≢true idle)
+idle_due rows.Rest p due idle = absurd (false≢true idle)
+idle_due (rows.Unlink t) p due idle = due.idle
+idle_due (rows.ReleaseRemoved what) p due idle = due.idle
+idle_due (rows.ReleaseTransfer t) p due idle = due.idle
+idle_due (rows.ReleaseEndpoint e) p due idle = due.idle
+idle_due (rows.Harvest e t found) p due idle = due.idle
+idle_due row p due idle = due.0
+
+-- .. and begin none
+pub stays_idle : (row : DriverRow) (p : Parts) → IsDue p row → comes_idle row ≡ true → (footprint row p.driver.command).command ≡ false
+    → (after_driver_row row p).driver.command ≡ None
+stays_idle row p due idle misses = command_stays row p p.driver.command refl misses ∙ idle_due row p due idle

@@ -250,15 +250,12 @@ row_stands rows.Lend p is due on sound has listed old = lend_stands p due sound.
 row_stands (rows.Store b at v) p is due on sound has listed old = due_store p b at v due on sound old
 row_stands rows.Frames p is due on sound has listed old = frames_stand p due old
 row_stands (rows.ReleaseRemoved what) p is due on sound has listed old = removed_stands p what sound.stands sound.shape has listed old
-row_stands (rows.ReadFrame n) p is due on sound has listed old = quiet (rows.ReadFrame n) p is refl old
 row_stands (rows.ReleaseTransfer t) p is due on sound has listed old = transfer_stands p t (slice_get p.driver.transfers t) sound.stands sound.shape has listed old
 row_stands (rows.ReleaseEndpoint e) p is due on sound has listed old = endpoint_stands p e (slice_get p.driver.endpoints e) sound.stands sound.shape has listed old
-row_stands rows.ClearAdvance p is due on sound has listed old = quiet rows.ClearAdvance p is refl old
-row_stands rows.RingBell p is due on sound has listed old = quiet rows.RingBell p is refl old
-row_stands (rows.ReadStatus heard) p is due on sound has listed old = quiet (rows.ReadStatus heard) p is refl old
-row_stands (rows.Harvest e t found) p is due on sound has listed old = quiet (rows.Harvest e t found) p is refl old
-row_stands rows.Rest p is due on sound has listed old = quiet rows.Rest p is refl old
-row_stands _ p is due on sound has listed old = absurd (false≢true on)
+row_stands (rows.Mend w) p is due on sound has listed old = absurd (false≢true on)
+row_stands rows.LendDescriptors p is due on sound has listed old = absurd (false≢true on)
+row_stands (rows.Unlink t) p is due on sound has listed old = absurd (false≢true on)
+row_stands row p is due on sound has listed old = quiet row p is refl old
 
 pub events_elsewhere_keep_it_standing : (p : Parts) → is_elsewhere p.driver.command (driver_row p) ≡ true → IsSound p.memory p.driver → ListStands p.memory p.driver → ListStands (after_driver_row (driver_row p) p).memory (after_driver_row (driver_row p) p).driver
 events_elsewhere_keep_it_standing p on sound old = row_stands (driver_row p) p refl (each_event_is_due p) on sound (events_keep_owners p sound.owners) (events_keep_the_list p sound.owners sound.listed) old

@@ -73,21 +73,11 @@ stored p b at v is (inr link) sound one old = link_stored p link.command (record
 -- ---- any row
 
 row_stands : (p : Parts) (r : DriverRow) → driver_row p ≡ r → IsDue p r → IsSound p.memory p.driver → HasOneEach p.driver → KeepsItsList p.memory p.driver → Stays p
-row_stands p rows.Lend is due sound one old = elsewhere p rows.Lend is refl sound old
 row_stands p (rows.Store b at v) is due sound one old = stored p b at v is due sound one old
 row_stands p (rows.Mend w) is due sound one old = mends_keep_it_standing p w is sound old.mends old.list
-row_stands p rows.Frames is due sound one old = elsewhere p rows.Frames is refl sound old
 row_stands p rows.LendDescriptors is due sound one old = lend_stands p is sound one old.to_link old.list
 row_stands p (rows.Unlink t) is due sound one old = unlinks_keep_it_standing p t is sound old.list
-row_stands p (rows.ReleaseRemoved what) is due sound one old = elsewhere p (rows.ReleaseRemoved what) is refl sound old
-row_stands p (rows.ReadFrame n) is due sound one old = elsewhere p (rows.ReadFrame n) is refl sound old
-row_stands p (rows.ReleaseTransfer t) is due sound one old = elsewhere p (rows.ReleaseTransfer t) is refl sound old
-row_stands p (rows.ReleaseEndpoint e) is due sound one old = elsewhere p (rows.ReleaseEndpoint e) is refl sound old
-row_stands p rows.ClearAdvance is due sound one old = elsewhere p rows.ClearAdvance is refl sound old
-row_stands p rows.RingBell is due sound one old = elsewhere p rows.RingBell is refl sound old
-row_stands p (rows.ReadStatus heard) is due sound one old = elsewhere p (rows.ReadStatus heard) is refl sound old
-row_stands p (rows.Harvest e t found) is due sound one old = elsewhere p (rows.Harvest e t found) is refl sound old
-row_stands p rows.Rest is due sound one old = elsewhere p rows.Rest is refl sound old
+row_stands p row is due sound one old = elsewhere p row is refl sound old
 
 pub events_keep_the_list : (p : Parts) → IsSound p.memory p.driver → AreInFrames p.driver → KeepsItsList p.memory p.driver → KeepsItsList (after_driver_row (driver_row p) p).memory (after_driver_row (driver_row p) p).driver
 events_keep_the_list p sound frames old =

@@ -76,20 +76,7 @@ module _ (s : Standing) (w : World) (vs : List ℕ) (k : IsMixedAt s w) (v : Rou
   by_row (rows.Store b at x) is due =
       ⊎_elim (λ (next : IsNextOf (driver_parts w) (rows.Store b at x)). store_falls next.command b at x next.unfinished next.next)
       (λ (why : IsLinkOf (driver_parts w) (rows.Store b at x)). link_falls b at x why) due
-  by_row rows.Lend is due = other_falls rows.Lend is refl due
-  by_row (rows.Mend m) is due = other_falls (rows.Mend m) is refl due
-  by_row rows.Frames is due = other_falls rows.Frames is refl due
-  by_row rows.LendDescriptors is due = other_falls rows.LendDescriptors is refl due
-  by_row (rows.Unlink t) is due = other_falls (rows.Unlink t) is refl due
-  by_row (rows.ReleaseRemoved what) is due = other_falls (rows.ReleaseRemoved what) is refl due
-  by_row (rows.ReadFrame n) is due = other_falls (rows.ReadFrame n) is refl due
-  by_row (rows.ReleaseTransfer t) is due = other_falls (rows.ReleaseTransfer t) is refl due
-  by_row (rows.ReleaseEndpoint e) is due = other_falls (rows.ReleaseEndpoint e) is refl due
-  by_row rows.ClearAdvance is due = other_falls rows.ClearAdvance is refl due
-  by_row rows.RingBell is due = other_falls rows.RingBell is refl due
-  by_row (rows.ReadStatus heard) is due = other_falls (rows.ReadStatus heard) is refl due
-  by_row (rows.Harvest e t found) is due = other_falls (rows.Harvest e t found) is refl due
-  by_row rows.Rest is due = other_falls rows.Rest is refl due
+  by_row row is due = other_falls row is refl due
 
   address : (driver_next w).registers.async_list_address ≡ w.registers.async_list_address
   address = (driver_keeps_walking w k.walking).walk.start ∙ sym k.walking.walk.start

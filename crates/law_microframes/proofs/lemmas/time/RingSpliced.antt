@@ -169,20 +169,7 @@ module _ (s : Standing) (w : World) (k : IsMixedAt s w) where
   words_by (rows.Store b at v) is row_due off =
       ⊎_elim (λ (next : IsNextOf (driver_parts w) (rows.Store b at v)). own_words next.command b at v next.unfinished next.next off)
       (λ (why : IsLinkOf (driver_parts w) (rows.Store b at v)). λ q reached. link_words p w.registers.doorbell b at v q why sound reached) row_due
-  words_by rows.Lend is row_due off = other rows.Lend is refl row_due
-  words_by (rows.Mend m) is row_due off = other (rows.Mend m) is refl row_due
-  words_by rows.Frames is row_due off = other rows.Frames is refl row_due
-  words_by rows.LendDescriptors is row_due off = other rows.LendDescriptors is refl row_due
-  words_by (rows.Unlink t) is row_due off = other (rows.Unlink t) is refl row_due
-  words_by (rows.ReleaseRemoved what) is row_due off = other (rows.ReleaseRemoved what) is refl row_due
-  words_by (rows.ReadFrame n) is row_due off = other (rows.ReadFrame n) is refl row_due
-  words_by (rows.ReleaseTransfer t) is row_due off = other (rows.ReleaseTransfer t) is refl row_due
-  words_by (rows.ReleaseEndpoint e) is row_due off = other (rows.ReleaseEndpoint e) is refl row_due
-  words_by rows.ClearAdvance is row_due off = other rows.ClearAdvance is refl row_due
-  words_by rows.RingBell is row_due off = other rows.RingBell is refl row_due
-  words_by (rows.ReadStatus heard) is row_due off = other (rows.ReadStatus heard) is refl row_due
-  words_by (rows.Harvest e t found) is row_due off = other (rows.Harvest e t found) is refl row_due
-  words_by rows.Rest is row_due off = other rows.Rest is refl row_due
+  words_by row is row_due off = other row is refl row_due
 
   pub links_stay : is_splice w.driver.command (driver_row (driver_parts w)) ≡ false → (n : ℕ) → is_reached w.driver w.registers.doorbell n ≡ true
       → next_of (driver_next w).memory n ≡ next_of w.memory n

@@ -202,20 +202,7 @@ module _ (p : Parts) (t i : ℕ) (y z : Transfer) (place : IsInPlace p.memory p.
       where
         mend_same : (w v : Mend) → rows.Mend w ≡ rows.Mend v → w ≡ v
         mend_same w v same = cc
-    no_mend rows.Lend is = inl (leaves (λ v row same. not_mend rows.Lend v tt (sym is ∙ row)))
-    no_mend (rows.Store b at v) is = inl (leaves (λ u row same. not_mend (rows.Store b at v) u tt (sym is ∙ row)))
-    no_mend (rows.ReleaseTransfer u) is = inl (leaves (λ v row same. not_mend (rows.ReleaseTransfer u) v tt (sym is ∙ row)))
-    no_mend (rows.ReleaseEndpoint e) is = inl (leaves (λ v row same. not_mend (rows.ReleaseEndpoint e) v tt (sym is ∙ row)))
-    no_mend rows.ClearAdvance is = inl (leaves (λ v row same. not_mend rows.ClearAdvance v tt (sym is ∙ row)))
-    no_mend rows.RingBell is = inl (leaves (λ v row same. not_mend rows.RingBell v tt (sym is ∙ row)))
-    no_mend (rows.ReadStatus heard) is = inl (leaves (λ v row same. not_mend (rows.ReadStatus heard) v tt (sym is ∙ row)))
-    no_mend (rows.ReadFrame n) is = inl (leaves (λ v row same. not_mend (rows.ReadFrame n) v tt (sym is ∙ row)))
-    no_mend rows.Frames is = inl (leaves (λ v row same. not_mend rows.Frames v tt (sym is ∙ row)))
-    no_mend rows.LendDescriptors is = inl (leaves (λ v row same. not_mend rows.LendDescriptors v tt (sym is ∙ row)))
-    no_mend (rows.Unlink u) is = inl (leaves (λ v row same. not_mend (rows.Unlink u) v tt (sym is ∙ row)))
-    no_mend (rows.ReleaseRemoved what) is = inl (leaves (λ v row same. not_mend (rows.ReleaseRemoved what) v tt (sym is ∙ row)))
-    no_mend (rows.Harvest e u found) is = inl (leaves (λ v row same. not_mend (rows.Harvest e u found) v tt (sym is ∙ row)))
-    no_mend rows.Rest is = inl (leaves (λ v row same. not_mend rows.Rest v tt (sym is ∙ row)))
+    no_mend row is = inl (leaves (λ v mends same. not_mend row v tt (sym is ∙ mends)))
 
 pub itd_words_stay : ItdWordsStay
 itd_words_stay p t i y z place there sort held split after sort_then held_then first split_then later small =

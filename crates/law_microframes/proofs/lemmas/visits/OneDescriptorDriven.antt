@@ -220,7 +220,6 @@ chosen d m n _ sound is none = untouched d m d refl refl refl
 pub row_follows : (row : DriverRow) (p : Parts) → IsDue p row → IsSound p.memory p.driver → Follows p.driver p.memory (after_driver_row row p).driver
 row_follows rows.Lend p due sound = went_on p.driver p.memory (record p.driver { book = (lend_taken (holding p.driver.book p.memory)).book }) refl refl refl
 row_follows (rows.Store b at v) p due sound = went_on p.driver p.memory p.driver refl refl refl
-row_follows (rows.Mend w) p due sound = untouched p.driver p.memory (after_driver_row (rows.Mend w) p).driver refl refl refl
 row_follows rows.Frames p due sound = chosen p.driver p.memory p.registers.frame_index p.driver.command sound refl
     (λ e t count is.
     let same_one : due.command ≡ unfinished.Iso e t count = same_Some due.command (unfinished.Iso e t count) (sym due.unfinished ∙ is) in
@@ -231,16 +230,12 @@ row_follows (rows.Unlink t) p due sound = unlink_goes p t (slice_get p.driver.tr
 row_follows (rows.ReleaseRemoved what) p due sound = removed_goes p what
 row_follows (rows.ReleaseTransfer t) p due sound = transfer_goes p t (slice_get p.driver.transfers t) (freed_by p.driver (holding p.driver.book p.memory) (slice_get p.driver.transfers t)) refl
 row_follows (rows.ReleaseEndpoint e) p due sound = endpoint_goes p e (slice_get p.driver.endpoints e) refl
-row_follows rows.ClearAdvance p due sound = untouched p.driver p.memory (after_driver_row rows.ClearAdvance p).driver refl refl refl
-row_follows rows.RingBell p due sound = untouched p.driver p.memory (after_driver_row rows.RingBell p).driver refl refl refl
-row_follows (rows.ReadStatus heard) p due sound = untouched p.driver p.memory (after_driver_row (rows.ReadStatus heard) p).driver refl refl refl
-row_follows (rows.ReadFrame n) p due sound = untouched p.driver p.memory (after_driver_row (rows.ReadFrame n) p).driver refl refl refl
 row_follows (rows.Harvest e t found) p due sound =
     subst (λ (o : Option Endpoint). Follows p.driver p.memory (after_harvest p.driver p.memory e t found o (slice_get p.driver.transfers t))) (sym due.here)
     (subst (λ (o : Option Transfer). Follows p.driver p.memory (after_harvest p.driver p.memory e t found (Some due.endpoint) o)) (sym due.there)
     (noted_same p.driver p.memory (after_harvest p.driver p.memory e t found (Some due.endpoint) (Some due.transfer)) (harvest_notes p e t found due sound.owners.orderly)
     (harvest_back p e t found due sound.owners.orderly) (harvest_out p e t found due sound.owners.orderly)))
-row_follows rows.Rest p due sound = untouched p.driver p.memory p.driver refl refl refl
+row_follows row p due sound = untouched p.driver p.memory (after_driver_row row p).driver refl refl refl
 
 -- ---- memory
 

@@ -310,19 +310,7 @@ row_down (rows.ReleaseEndpoint e) p due =
 row_down (rows.ReleaseRemoved (removed.Endpoint e)) p due =
     whole p.driver (after_driver_row (rows.ReleaseRemoved (removed.Endpoint e)) p).driver e
     (removed_down p e (slice_get p.driver.endpoints e) refl) (λ k differs. (other_returns_keep_waiting p e k differs).1)
-row_down (rows.ReleaseRemoved (removed.Descriptor t)) p due = quiet_down (rows.ReleaseRemoved (removed.Descriptor t)) p refl
-row_down rows.Lend p due = quiet_down rows.Lend p refl
-row_down (rows.Store b at v) p due = quiet_down (rows.Store b at v) p refl
-row_down (rows.Mend w) p due = quiet_down (rows.Mend w) p refl
-row_down rows.Frames p due = quiet_down rows.Frames p refl
-row_down rows.LendDescriptors p due = quiet_down rows.LendDescriptors p refl
-row_down (rows.Unlink t) p due = quiet_down (rows.Unlink t) p refl
-row_down (rows.ReleaseTransfer t) p due = quiet_down (rows.ReleaseTransfer t) p refl
-row_down rows.ClearAdvance p due = quiet_down rows.ClearAdvance p refl
-row_down rows.RingBell p due = quiet_down rows.RingBell p refl
-row_down (rows.ReadStatus heard) p due = quiet_down (rows.ReadStatus heard) p refl
-row_down (rows.ReadFrame n) p due = quiet_down (rows.ReadFrame n) p refl
-row_down rows.Rest p due = quiet_down rows.Rest p refl
+row_down row p due = quiet_down row p refl
 
 pub events_count_down : EventsCountDown
 events_count_down p = row_down (driver_row p) p (each_event_is_due p)

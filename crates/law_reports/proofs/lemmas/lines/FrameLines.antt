@@ -223,28 +223,9 @@ module _ (p : Parts) (hand : Hand) (parts : StructureSets) (harvested : ℕ → 
   given_line e (Some x) here of k = cancel_line e x (is_told x) refl here (of x here) k
 
   pub frame_told : (row : DriverRow) → HasOwners p.driver → QueuesTakeTurns p.driver → IsDue p row → IsOfFrames p row → After row
-  frame_told rows.Lend owners turns due of k = absurd of
-  frame_told (rows.Store b at v) owners turns due of k = same_after (rows.Store b at v)
-      ((frames_leave (rows.Store b at v) p owners turns due of).tells refl) k
-  frame_told (rows.Mend w) owners turns due of k = absurd of
-  frame_told rows.Frames owners turns due of k = same_after rows.Frames ((frames_leave rows.Frames p owners turns due of).tells refl) k
-  frame_told rows.LendDescriptors owners turns due of k = same_after rows.LendDescriptors
-      ((frames_leave rows.LendDescriptors p owners turns due of).tells refl) k
-  frame_told (rows.Unlink t) owners turns due of k = same_after (rows.Unlink t)
-      ((frames_leave (rows.Unlink t) p owners turns due of).tells refl) k
-  frame_told (rows.ReleaseRemoved (removed.Descriptor t)) owners turns due of k =
-      same_after (rows.ReleaseRemoved (removed.Descriptor t)) ((frames_leave (rows.ReleaseRemoved (removed.Descriptor t)) p owners turns
-      due of).tells refl) k
   frame_told (rows.ReleaseRemoved (removed.Endpoint e)) owners turns due of k = given_line e (slice_get p.driver.endpoints e) refl of k
-  frame_told (rows.ReadFrame n) owners turns due of k = same_after (rows.ReadFrame n)
-      ((frames_leave (rows.ReadFrame n) p owners turns due of).tells refl) k
-  frame_told (rows.ReleaseTransfer t) owners turns due of k = absurd of
-  frame_told (rows.ReleaseEndpoint e) owners turns due of k = absurd of
-  frame_told rows.ClearAdvance owners turns due of k = absurd of
-  frame_told rows.RingBell owners turns due of k = absurd of
-  frame_told (rows.ReadStatus heard) owners turns due of k = absurd of
   frame_told (rows.Harvest e t found) owners turns due of k = read_told e t found due (of due.transfer due.there) owners found refl k
-  frame_told rows.Rest owners turns due of k = absurd of
+  frame_told row owners turns due of k = same_after row ((frames_leave row p owners turns due of).tells refl) k
 
 pub frame_tells : (s t : Standing) (m : Lines) (w : World) → IsMixedAt s w → IsTelling s m w → AreIsoGoing w.driver → AreStill s t
     → QueuesAlike (queued w.driver) (queued (driver_next w).driver) → IsOfFrames (driver_parts w) (driver_row (driver_parts w))

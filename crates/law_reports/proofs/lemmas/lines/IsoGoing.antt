@@ -235,27 +235,10 @@ module _ (p : Parts) (going : AreIsoGoing p.driver) (apart : AreApart p.driver) 
 
   pub row_goes : (row : DriverRow) → HasOwners p.driver → QueuesTakeTurns p.driver → IsDue p row
       → AreIsoGoing (after_driver_row row p).driver
-  row_goes rows.Lend owners turns due = goes_on rows.Lend (reports_stays rows.Lend p p.driver.command refl refl)
-  row_goes (rows.Store b at v) owners turns due = goes_on (rows.Store b at v)
-      (reports_stays (rows.Store b at v) p p.driver.command refl refl)
-  row_goes (rows.Mend w) owners turns due = goes_on (rows.Mend w) refl
-  row_goes rows.Frames owners turns due = goes_on rows.Frames (reports_stays rows.Frames p p.driver.command refl refl)
-  row_goes rows.LendDescriptors owners turns due =
-      goes_on rows.LendDescriptors (reports_stays rows.LendDescriptors p p.driver.command refl refl)
-  row_goes (rows.Unlink t) owners turns due = goes_on (rows.Unlink t) (reports_stays (rows.Unlink t) p p.driver.command refl refl)
-  row_goes (rows.ReleaseRemoved (removed.Descriptor t)) owners turns due =
-      goes_on (rows.ReleaseRemoved (removed.Descriptor t))
-      (reports_stays (rows.ReleaseRemoved (removed.Descriptor t)) p p.driver.command refl refl)
   row_goes (rows.ReleaseRemoved (removed.Endpoint e)) owners turns due = removed_end e (slice_get p.driver.endpoints e) refl
-  row_goes (rows.ReadFrame n) owners turns due = goes_on (rows.ReadFrame n) refl
-  row_goes (rows.ReleaseTransfer t) owners turns due =
-      goes_on (rows.ReleaseTransfer t) (reports_stays (rows.ReleaseTransfer t) p p.driver.command refl refl)
   row_goes (rows.ReleaseEndpoint e) owners turns due = released e (slice_get p.driver.endpoints e) refl
-  row_goes rows.ClearAdvance owners turns due = goes_on rows.ClearAdvance refl
-  row_goes rows.RingBell owners turns due = goes_on rows.RingBell refl
-  row_goes (rows.ReadStatus heard) owners turns due = goes_on (rows.ReadStatus heard) refl
   row_goes (rows.Harvest e t found) owners turns due =
       ⊎_elim (λ (is : is_descriptor due.transfer.sort ≡ true). described e t found due owners turns is found refl)
       (λ (is : is_descriptor due.transfer.sort ≡ false). told_qtds e t found due owners turns is)
       (cases_Bool (is_descriptor due.transfer.sort))
-  row_goes rows.Rest owners turns due = goes_on rows.Rest refl
+  row_goes row owners turns due = goes_on row (reports_stays row p p.driver.command refl refl)

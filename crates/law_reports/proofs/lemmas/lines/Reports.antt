@@ -19,18 +19,7 @@ tells_by row p reports store = record {
 
 -- while a command is unfinished
 pub busy_tells : (row : DriverRow) (p : Parts) → IsDue p row → p.driver.command ≢ None → TellsAlike p.driver (after_driver_row row p).driver
-busy_tells rows.Lend p due busy = tells_by rows.Lend p refl refl
-busy_tells (rows.Store b at v) p due busy = tells_by (rows.Store b at v) p refl refl
-busy_tells (rows.Mend m) p due busy = absurd (busy due.0)
-busy_tells rows.Frames p due busy = tells_by rows.Frames p refl refl
-busy_tells rows.LendDescriptors p due busy = tells_by rows.LendDescriptors p refl refl
-busy_tells (rows.Unlink t) p due busy = absurd (busy due.idle)
 busy_tells (rows.ReleaseRemoved what) p due busy = absurd (busy due.idle)
-busy_tells (rows.ReleaseTransfer t) p due busy = absurd (busy due.idle)
 busy_tells (rows.ReleaseEndpoint e) p due busy = absurd (busy due.idle)
-busy_tells rows.ClearAdvance p due busy = absurd (busy due.0)
-busy_tells rows.RingBell p due busy = absurd (busy due.0)
-busy_tells (rows.ReadStatus heard) p due busy = absurd (busy due.0)
-busy_tells (rows.ReadFrame n) p due busy = absurd (busy due.0)
 busy_tells (rows.Harvest e t found) p due busy = absurd (busy due.idle)
-busy_tells rows.Rest p due busy = record { reports = refl; store = refl }
+busy_tells row p due busy = tells_by row p refl refl

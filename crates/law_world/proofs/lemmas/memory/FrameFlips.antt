@@ -22,7 +22,6 @@ use Rattle.drv_members.proofs.Splits.{count_first, count_two, count_fewer, none_
 use Rattle.drv_periodic.specs.Periodic.{Periodic, after_store}
 use Rattle.drv_periodic_table.specs.Linking.{begun_next}
 use Rattle.drv_periodic_table.specs.Periodic.{PeriodicContent}
-use Rattle.drv_periodic_table.specs.declared.content.Removed.TheVariants as removed
 use Rattle.drv_table.specs.declared.content.Command.{Command}
 use Rattle.drv_table.specs.declared.content.Command.TheVariants as unfinished
 use Rattle.drv_table.specs.declared.content.Endpoint.{Endpoint}
@@ -131,17 +130,7 @@ module _ (p : Parts) (kept : IsKept p.driver.periodic.list.members.schedule) whe
       same (ap (λ (o : Option Command). led (framed_by d p.registers.frame_index o)) due.unfinished
       ∙ framed_led d p.registers.frame_index due.command due.unfinished due.next kept)
   row_led (rows.Unlink t) due = an_unlink t refl
-  row_led (rows.Mend m) due = quiet (rows.Mend m) refl
-  row_led (rows.ReleaseRemoved (removed.Descriptor t)) due = quiet (rows.ReleaseRemoved (removed.Descriptor t)) refl
-  row_led (rows.ReleaseRemoved (removed.Endpoint e)) due = quiet (rows.ReleaseRemoved (removed.Endpoint e)) refl
-  row_led (rows.ReadFrame n) due = quiet (rows.ReadFrame n) refl
-  row_led (rows.ReleaseTransfer t) due = quiet (rows.ReleaseTransfer t) refl
-  row_led (rows.ReleaseEndpoint e) due = quiet (rows.ReleaseEndpoint e) refl
-  row_led rows.ClearAdvance due = quiet rows.ClearAdvance refl
-  row_led rows.RingBell due = quiet rows.RingBell refl
-  row_led (rows.ReadStatus heard) due = quiet (rows.ReadStatus heard) refl
-  row_led (rows.Harvest e t found) due = quiet (rows.Harvest e t found) refl
-  row_led rows.Rest due = same refl
+  row_led row due = quiet row refl
 
 -- ---- who stands behind a queue head is another one
 

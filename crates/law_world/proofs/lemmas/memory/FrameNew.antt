@@ -15,7 +15,6 @@ use Rattle.drv_periodic.specs.declared.work.Work.{Work}
 use Rattle.drv_periodic.specs.Periodic.{Periodic, after_store, after_work, inserting, removing, is_more}
 use Rattle.drv_periodic_table.specs.Linking.{may_link, may_unlink, linking, unlinking, begun, with_first, begun_next}
 use Rattle.drv_periodic_table.specs.Periodic.{PeriodicContent, descriptor_member}
-use Rattle.drv_periodic_table.specs.declared.content.Removed.TheVariants as removed
 use Rattle.drv_table.specs.declared.content.Command.{Command}
 use Rattle.drv_table.specs.declared.content.Command.TheVariants as unfinished
 use Rattle.drv_table.specs.declared.content.Transfer.{Transfer}
@@ -183,17 +182,7 @@ module _ (p : Parts) (kept : AreKeptThen p.driver.periodic.list) (k : Descriptor
       (ap (λ (o : Option Command). is_linked (framed_by d p.registers.frame_index o).periodic.list.members.schedule (Once k))
       (sym due.unfinished) ∙ on))
   row_comes (rows.Unlink t) due on = was (unlinked_back t (slice_get d.transfers t) on)
-  row_comes (rows.Mend m) due on = quiet (rows.Mend m) refl on
-  row_comes (rows.ReleaseRemoved (removed.Descriptor t)) due on = quiet (rows.ReleaseRemoved (removed.Descriptor t)) refl on
-  row_comes (rows.ReleaseRemoved (removed.Endpoint e)) due on = quiet (rows.ReleaseRemoved (removed.Endpoint e)) refl on
-  row_comes (rows.ReadFrame n) due on = quiet (rows.ReadFrame n) refl on
-  row_comes (rows.ReleaseTransfer t) due on = quiet (rows.ReleaseTransfer t) refl on
-  row_comes (rows.ReleaseEndpoint e) due on = quiet (rows.ReleaseEndpoint e) refl on
-  row_comes rows.ClearAdvance due on = quiet rows.ClearAdvance refl on
-  row_comes rows.RingBell due on = quiet rows.RingBell refl on
-  row_comes (rows.ReadStatus heard) due on = quiet (rows.ReadStatus heard) refl on
-  row_comes (rows.Harvest e t found) due on = quiet (rows.Harvest e t found) refl on
-  row_comes rows.Rest due on = was on
+  row_comes row due on = quiet row refl on
 
 -- ---- the command stays, or none is unfinished
 
@@ -238,20 +227,4 @@ row_command p e rows.LendDescriptors is =
     (record p.driver { book = (lend_taken (holding p.driver.book (linked_by p.driver p.memory p.driver.command))).book })
     p.driver.command e refl is
 row_command p e rows.Frames is = framed_command p.driver p.registers.frame_index p.driver.command e refl is
-row_command p e (rows.Unlink t) is = sym (command_stays (rows.Unlink t) p p.driver.command refl refl) ∙ is
-row_command p e (rows.Mend m) is = is
-row_command p e (rows.ReleaseRemoved (removed.Descriptor t)) is =
-    sym (command_stays (rows.ReleaseRemoved (removed.Descriptor t)) p p.driver.command refl refl) ∙ is
-row_command p e (rows.ReleaseRemoved (removed.Endpoint f)) is =
-    sym (command_stays (rows.ReleaseRemoved (removed.Endpoint f)) p p.driver.command refl refl) ∙ is
-row_command p e (rows.ReadFrame n) is = is
-row_command p e (rows.ReleaseTransfer t) is =
-    sym (command_stays (rows.ReleaseTransfer t) p p.driver.command refl refl) ∙ is
-row_command p e (rows.ReleaseEndpoint f) is =
-    sym (command_stays (rows.ReleaseEndpoint f) p p.driver.command refl refl) ∙ is
-row_command p e rows.ClearAdvance is = is
-row_command p e rows.RingBell is = is
-row_command p e (rows.ReadStatus heard) is = is
-row_command p e (rows.Harvest f t found) is =
-    sym (command_stays (rows.Harvest f t found) p p.driver.command refl refl) ∙ is
-row_command p e rows.Rest is = is
+row_command p e row is = sym (command_stays row p p.driver.command refl refl) ∙ is

@@ -255,13 +255,8 @@ row_goes rows.LendDescriptors p =
     advanced_goes (record p.driver { book = (lend_taken (holding p.driver.book (linked_by p.driver p.memory p.driver.command))).book })
     p.driver.command
 row_goes rows.Frames p = framed_goes p.driver p.registers.frame_index p.driver.command
-row_goes (rows.Mend m) p = quiet (rows.Mend m) p refl refl refl refl refl
-row_goes (rows.Unlink t) p = quiet (rows.Unlink t) p refl refl refl refl refl
-row_goes (rows.ReleaseRemoved (removed.Descriptor t)) p = quiet (rows.ReleaseRemoved (removed.Descriptor t)) p refl refl refl refl refl
 row_goes (rows.ReleaseRemoved (removed.Endpoint e)) p =
     other (rows.ReleaseRemoved (removed.Endpoint e)) p (placed_gone p e (slice_get p.driver.endpoints e) refl) refl refl refl refl
-row_goes (rows.ReadFrame n) p = quiet (rows.ReadFrame n) p refl refl refl refl refl
-row_goes (rows.ReleaseTransfer t) p = quiet (rows.ReleaseTransfer t) p refl refl refl refl refl
 row_goes (rows.ReleaseEndpoint e) p = record {
   ends = ends_same p.driver.endpoints _ (endpoint_gone p e (slice_get p.driver.endpoints e) refl);
   command = inl (command_stays (rows.ReleaseEndpoint e) p p.driver.command refl refl);
@@ -277,9 +272,8 @@ row_goes rows.RingBell p = record {
   command = inl refl;
   left = goes_on [] refl refl;
 }
-row_goes (rows.ReadStatus heard) p = quiet (rows.ReadStatus heard) p refl refl refl refl refl
 row_goes (rows.Harvest e t found) p =
     other (rows.Harvest e t found) p
     (harvest_stays p.driver p.memory e t found (slice_get p.driver.endpoints e) (slice_get p.driver.transfers t) refl).endpoints refl refl
     refl refl
-row_goes rows.Rest p = quiet rows.Rest p refl refl refl refl refl
+row_goes row p = quiet row p refl refl refl refl refl

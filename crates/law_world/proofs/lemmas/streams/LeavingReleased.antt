@@ -1,7 +1,7 @@
 -- The row that gives back an endpoint that has left the ring leaves a world whole.
-use Rattle.std.proofs.Common.{◌≡◌, ℕ, ◌*◌, Bool, true, false, List, slice_get, Option, None, sym, subst, ◌∙◌, inl}
+use Rattle.std.proofs.Common.{◌≡◌, ℕ, ◌*◌, Bool, true, false, List, Option, None, refl, sym, subst, ◌∙◌, inl}
 use Rattle.law_world.proofs.Common.{none_opens}
-use Rattle.law_frame_list.proofs.Common.{endpoint_command}
+use Rattle.law_footprints.proofs.Fields.{command_stays}
 use Rattle.bus_wire.specs.Bus.{Fixed}
 use Rattle.drv_table.specs.declared.content.Command.{Command}
 use Rattle.drv_table.specs.declared.content.Endpoint.{Endpoint}
@@ -68,7 +68,7 @@ module _ (fixed : Fixed) (takes : ℕ → ℕ → Bool) (member : ℕ → Bool) 
   by_row P here = subst (λ (r : DriverRow). P (after_driver_row r (driver_parts w)).driver) (sym row) here
 
   command : new.command ≡ None
-  command = by_row (λ (d : DriverContent). d.command ≡ None) (endpoint_command p e (slice_get w.driver.endpoints e) ∙ due.idle)
+  command = by_row (λ (d : DriverContent). d.command ≡ None) (command_stays (rows.ReleaseEndpoint e) p p.driver.command refl refl ∙ due.idle)
 
   idle : UnlinksAtMost new.command
   idle = subst UnlinksAtMost (sym command) tt

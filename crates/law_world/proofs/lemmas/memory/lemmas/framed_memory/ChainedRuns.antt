@@ -1,10 +1,9 @@
 -- An open of an interrupt endpoint, from its acceptance to its last store.
-use Rattle.std.proofs.Common.{◌≡◌, ℕ, suc, ◌+◌, ◌<◌, Bool, true, false, ◌&&◌, cond, List, [], length, slice_get, Option, Some, None, nat_le, nat_lt, unwrap_or, if◌then◌else◌, ap, refl, sym, subst, ◌∙◌, ⊎_elim, inl, inr, arith}
+use Rattle.std.proofs.Common.{◌≡◌, ℕ, suc, ◌+◌, ◌<◌, Bool, true, false, ◌&&◌, cond, List, [], length, Option, Some, None, nat_le, nat_lt, unwrap_or, if◌then◌else◌, ap, refl, sym, subst, ◌∙◌, ⊎_elim, inl, inr, arith}
 use Rattle.std.specs.Prelude.{is_none, is_some}
 use Rattle.law_world.proofs.Common2.{done_none}
 use Rattle.law_driver_ring.proofs.Common.{speed_small}
 use Rattle.law_descriptors.proofs.Common.{either}
-use Rattle.law_frame_list.proofs.Common.{transfer_command, unlink_command, endpoint_command, removed_command}
 use Rattle.usb_base.specs.declared.packets.Ask.{Ask}
 use Rattle.usb_base.specs.declared.packets.Reply.{Reply}
 use Rattle.word_mem.specs.Memory.{Mem}
@@ -26,7 +25,6 @@ use Rattle.drv_table.specs.Parts.{Parts}
 use Rattle.drv_table.specs.Kinds.{is_iso}
 use Rattle.drv_table.specs.Commands.{events_of, links, removes_members, no_command, list_after, finished, or_finished, linked_on, advanced_by, advance, link_row, command_row}
 use Rattle.drv_table.specs.FrameChoice.{framed_by, linked_by}
-use Rattle.drv_table.specs.Releases.{freed_by}
 use Rattle.drv_table.specs.Rows.{row_for, driver_row, after_driver_row}
 use Rattle.law_driver.specs.run_owners.Accepts.{Chains, Accepts, opens, chains, places, transfers, describes, cancels, unchains, Unchains}
 use Rattle.law_driver.specs.run_owners.Due.{IsDue, IsLinkOf}
@@ -42,7 +40,7 @@ use Rattle.law_frames.specs.Met.{Kind}
 use Rattle.law_frames.specs.FrameHand.{FrameHand}
 use Rattle.law_descriptors.specs.Both.{parts_now}
 use Rattle.law_descriptors.specs.ListRows.{leaves_now, recent_with}
-use Rattle.law_descriptors.proofs.Chained.{harvest_command}
+use Rattle.law_footprints.proofs.Fields.{command_stays}
 use Rattle.law_world.specs.memory.framed_memory.Now.{IsFramedNow, reads_alone}
 use Rattle.law_world.specs.memory.framed_memory.NowRows.{FramedLinked}
 use Rattle.law_world.proofs.lemmas.memory.lemmas.framed_memory.Now.{registers_keep_now}
@@ -94,25 +92,11 @@ row_goes : (row : DriverRow) (p : Parts) → IsDue p row → NoChain p.driver �
 row_goes rows.Lend p due none =
     command_goes (record p.driver { book = (lend_taken (holding p.driver.book p.memory)).book }) p.driver.command (same_command p.driver (record p.driver { book = (lend_taken (holding p.driver.book p.memory)).book }) refl none)
 row_goes (rows.Store b at v) p due none = command_goes p.driver p.driver.command none
-row_goes (rows.Mend w) p due none = same_command p.driver (after_driver_row (rows.Mend w) p).driver refl none
 row_goes rows.Frames p due none = frames_goes p.driver p.registers.frame_index p.driver.command none
 row_goes rows.LendDescriptors p due none =
     command_goes (record p.driver { book = (lend_taken (holding p.driver.book (linked_by p.driver p.memory p.driver.command))).book }) p.driver.command
     (same_command p.driver (record p.driver { book = (lend_taken (holding p.driver.book (linked_by p.driver p.memory p.driver.command))).book }) refl none)
-row_goes (rows.Unlink t) p due none = same_command p.driver (after_driver_row (rows.Unlink t) p).driver (unlink_command p t (slice_get p.driver.transfers t)) none
-row_goes (rows.ReleaseRemoved what) p due none = same_command p.driver (after_driver_row (rows.ReleaseRemoved what) p).driver (removed_command p what) none
-row_goes (rows.ReleaseTransfer t) p due none =
-    same_command p.driver (after_driver_row (rows.ReleaseTransfer t) p).driver
-    (transfer_command p t (slice_get p.driver.transfers t) (freed_by p.driver (holding p.driver.book p.memory) (slice_get p.driver.transfers t))) none
-row_goes (rows.ReleaseEndpoint e) p due none = same_command p.driver (after_driver_row (rows.ReleaseEndpoint e) p).driver (endpoint_command p e (slice_get p.driver.endpoints e)) none
-row_goes rows.ClearAdvance p due none = same_command p.driver (after_driver_row rows.ClearAdvance p).driver refl none
-row_goes rows.RingBell p due none = same_command p.driver (after_driver_row rows.RingBell p).driver refl none
-row_goes (rows.ReadStatus heard) p due none = same_command p.driver (after_driver_row (rows.ReadStatus heard) p).driver refl none
-row_goes (rows.ReadFrame n) p due none = same_command p.driver (after_driver_row (rows.ReadFrame n) p).driver refl none
-row_goes (rows.Harvest e t found) p due none =
-    same_command p.driver (after_driver_row (rows.Harvest e t found) p).driver
-    (harvest_command p.driver p.memory e t found (slice_get p.driver.endpoints e) (slice_get p.driver.transfers t)) none
-row_goes rows.Rest p due none = none
+row_goes row p due none = same_command p.driver (after_driver_row row p).driver (command_stays row p p.driver.command refl refl) none
 
 stands_none : (d : DriverContent) (m : Mem) (member : ℕ → Bool) (recent : ℕ → Option Kind) (parts : StructureSets) → NoChain d → ChainStands d m member recent parts
 stands_none d m member recent parts none is = absurd (none is)

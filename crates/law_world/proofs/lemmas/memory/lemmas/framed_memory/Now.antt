@@ -153,21 +153,12 @@ by_row base member recent descs parts hand frame c d rows.RingBell k due on = re
   keeps = refl;
   standing_stays = λ a. refl;
 }
-by_row base member recent descs parts hand frame c d rows.Lend k due on = absurd (true≢false (sym on))
-by_row base member recent descs parts hand frame c d (rows.Store b at v) k due on = absurd (true≢false (sym on))
-by_row base member recent descs parts hand frame c d (rows.Mend w) k due on = absurd (true≢false (sym on))
-by_row base member recent descs parts hand frame c d (rows.ReleaseTransfer t) k due on = absurd (true≢false (sym on))
-by_row base member recent descs parts hand frame c d (rows.ReleaseEndpoint e) k due on = absurd (true≢false (sym on))
-by_row base member recent descs parts hand frame c d rows.Frames k due on = absurd (true≢false (sym on))
-by_row base member recent descs parts hand frame c d rows.LendDescriptors k due on = absurd (true≢false (sym on))
-by_row base member recent descs parts hand frame c d (rows.Unlink t) k due on = absurd (true≢false (sym on))
-by_row base member recent descs parts hand frame c d (rows.ReleaseRemoved what) k due on = absurd (true≢false (sym on))
-by_row base member recent descs parts hand frame c d (rows.Harvest e t found) k due on = absurd (true≢false (sym on))
 by_row base member recent descs parts hand frame c d rows.Rest k due on = record {
   drives = drives_now base member recent descs parts hand frame c d k;
   keeps = refl;
   standing_stays = λ a. refl;
 }
+by_row base member recent descs parts hand frame c d row k due on = absurd (true≢false (sym on))
 
 pub registers_keep_now : RegistersKeepNow
 registers_keep_now base member recent descs parts hand frame c d k on =

@@ -99,15 +99,7 @@ quiet_row base (rows.Harvest e t found) p on same quiet = record {
   notes = harvest_notes p.driver p.memory e t found (slice_get p.driver.endpoints e) (slice_get p.driver.transfers t);
 }
 quiet_row base rows.Rest p on same quiet = record { memory = refl; registers = refl; views = same_views (views_of p.driver); notes = refl }
-quiet_row base rows.Lend p on same quiet = absurd (true≢false (sym quiet))
-quiet_row base (rows.Store b at v) p on same quiet = absurd (true≢false (sym quiet))
-quiet_row base (rows.Mend w) p on same quiet = absurd (true≢false (sym quiet))
-quiet_row base (rows.ReleaseTransfer t) p on same quiet = absurd (true≢false (sym quiet))
-quiet_row base (rows.ReleaseEndpoint e) p on same quiet = absurd (true≢false (sym quiet))
-quiet_row base rows.Frames p on same quiet = absurd (true≢false (sym quiet))
-quiet_row base rows.LendDescriptors p on same quiet = absurd (true≢false (sym quiet))
-quiet_row base (rows.Unlink t) p on same quiet = absurd (true≢false (sym quiet))
-quiet_row base (rows.ReleaseRemoved what) p on same quiet = absurd (true≢false (sym quiet))
+quiet_row base row p on same quiet = absurd (true≢false (sym quiet))
 
 -- ---- what is told alike
 

@@ -121,20 +121,8 @@ module _ (p : Parts) (puts reported told : ℕ → List ℕ) (owners : HasOwners
       → ((e : ℕ) (x : Endpoint) → slice_get p.driver.endpoints e ≡ Some x → p.driver.command ≡ Some (unfinished.Open x.queue) → IsThere (after_driver_row row p).driver x → told (32 * x.queue) ≡ [])
       → HoldsPuts (after_driver_row row p).driver (after_driver_row row p).memory puts → Owes (after_driver_row row p).driver (after_driver_row row p).memory puts told
   by_row (rows.ReleaseTransfer t) due harvest endpoint opened still = told_released t due still
-  by_row rows.Lend due harvest endpoint opened still = told_same rows.Lend (row_no_more p rows.Lend due turns.asynchronous harvest (λ t is. cc) endpoint) opened still
-  by_row (rows.Store b at v) due harvest endpoint opened still = told_same (rows.Store b at v) (row_no_more p (rows.Store b at v) due turns.asynchronous harvest (λ t is. cc) endpoint) opened still
-  by_row (rows.Mend w) due harvest endpoint opened still = told_same (rows.Mend w) (row_no_more p (rows.Mend w) due turns.asynchronous harvest (λ t is. cc) endpoint) opened still
-  by_row rows.Frames due harvest endpoint opened still = told_same rows.Frames (row_no_more p rows.Frames due turns.asynchronous harvest (λ t is. cc) endpoint) opened still
-  by_row rows.LendDescriptors due harvest endpoint opened still = told_same rows.LendDescriptors (row_no_more p rows.LendDescriptors due turns.asynchronous harvest (λ t is. cc) endpoint) opened still
-  by_row (rows.Unlink t) due harvest endpoint opened still = told_same (rows.Unlink t) (row_no_more p (rows.Unlink t) due turns.asynchronous harvest (λ u is. cc) endpoint) opened still
-  by_row (rows.ReleaseRemoved what) due harvest endpoint opened still = told_same (rows.ReleaseRemoved what) (row_no_more p (rows.ReleaseRemoved what) due turns.asynchronous harvest (λ t is. cc) endpoint) opened still
-  by_row (rows.ReleaseEndpoint e) due harvest endpoint opened still = told_same (rows.ReleaseEndpoint e) (row_no_more p (rows.ReleaseEndpoint e) due turns.asynchronous harvest (λ t is. cc) endpoint) opened still
-  by_row rows.ClearAdvance due harvest endpoint opened still = told_same rows.ClearAdvance (row_no_more p rows.ClearAdvance due turns.asynchronous harvest (λ t is. cc) endpoint) opened still
-  by_row rows.RingBell due harvest endpoint opened still = told_same rows.RingBell (row_no_more p rows.RingBell due turns.asynchronous harvest (λ t is. cc) endpoint) opened still
-  by_row (rows.ReadStatus heard) due harvest endpoint opened still = told_same (rows.ReadStatus heard) (row_no_more p (rows.ReadStatus heard) due turns.asynchronous harvest (λ t is. cc) endpoint) opened still
-  by_row (rows.ReadFrame n) due harvest endpoint opened still = told_same (rows.ReadFrame n) (row_no_more p (rows.ReadFrame n) due turns.asynchronous harvest (λ t is. cc) endpoint) opened still
-  by_row (rows.Harvest e t found) due harvest endpoint opened still = absurd (harvest e t found refl)
-  by_row rows.Rest due harvest endpoint opened still = told_same rows.Rest (row_no_more p rows.Rest due turns.asynchronous harvest (λ t is. cc) endpoint) opened still
+  by_row row due harvest endpoint opened still =
+      told_same row (row_no_more p row due turns.asynchronous harvest (λ t is. cc) endpoint) opened still
 
 pub driver_owes : DriverOwes
 driver_owes p puts reported told owners turns harvest endpoint met opened held still owes = by_row p puts reported told owners turns held owes met (driver_row p) (each_event_is_due p) harvest endpoint opened still

@@ -1,14 +1,12 @@
 -- No more is noted as moved of a qTD than it asked for.
 use Rattle.std.proofs.Common.{◌≡◌, ℕ, zero, suc, ◌-◌, ◌≤◌, Bool, true, false, cond, nat_le, List, [], ◌∷◌, ◌++◌, length, take, drop, replicate, set, get_or, slice_get, Option, Some, None, refl, sym, subst, ◌∙◌, inl, inr, arith}
-use Rattle.law_world.proofs.Common.{moved_few, one_notes, framed_same}
-use Rattle.law_common.proofs.Lists.{none_there}
+use Rattle.law_footprints.proofs.Fields.{notes_stays}
+use Rattle.law_world.proofs.Common.{moved_few, one_notes}
 use Rattle.usb_base.specs.declared.endpoints.EpName.{EpName}
 use Rattle.usb_base.specs.declared.endpoints.EndCause.{EndCause}
 use Rattle.usb_base.specs.declared.reports.What.{What}
-use Rattle.usb_base.specs.declared.reports.What.TheVariants as lines
 use Rattle.word_mem.specs.Memory.{Mem}
 use Rattle.qh_qtd.specs.declared.token.Token.{Token}
-use Rattle.mem_runs.specs.Book.{holding, lend_taken}
 use Rattle.drv_table.specs.declared.content.Endpoint.{Endpoint}
 use Rattle.drv_table.specs.declared.content.QtdNote.{QtdNote}
 use Rattle.drv_table.specs.declared.content.Sort.{Sort}
@@ -19,21 +17,17 @@ use Rattle.drv_table.specs.declared.rows.DriverRow.TheVariants as rows
 use Rattle.drv_table.specs.declared.rows.Found.{Found}
 use Rattle.drv_table.specs.declared.rows.Found.TheVariants as founds
 use Rattle.drv_table.specs.DriverContent.{DriverContent, no_note, waits_for}
-use Rattle.drv_table.specs.Harvests.{note_at, token_in, halt_of, moved_of, done_of, ends_by, found_in, end_of, is_stall, noted, reported}
+use Rattle.drv_table.specs.Harvests.{note_at, token_in, halt_of, moved_of, done_of, ends_by, found_in, end_of, is_stall, noted}
 use Rattle.drv_table.specs.Accepting.{Offered, new_runs}
 use Rattle.drv_table.specs.Offers.{runs_of, note_for, note_stages}
 use Rattle.drv_table.specs.Parts.{Parts as DriverParts}
-use Rattle.drv_table.specs.Commands.{advance}
-use Rattle.drv_table.specs.FrameChoice.{linked_by}
 use Rattle.drv_table.specs.Harvesting.{served, told_with, behind_one, behind, mends_of, after_end, harvested_as, after_harvest}
-use Rattle.drv_table.specs.Releases.{freed_by, after_transfer, is_told, cancelled_bytes, after_endpoint}
 use Rattle.drv_table.specs.Rows.{driver_row, after_driver_row}
 use Rattle.law_driver.specs.run_owners.Due.{IsDue, IsHarvestDue}
 use Rattle.law_driver.proofs.lemmas.run_owners.Reasons.{each_event_is_due}
 use Rattle.law_driver.specs.chained_transfers.Asynchronous.{OnlyAsynchronous}
 use Rattle.law_driver.proofs.lemmas.chained_transfers.Ways.{found_by, moves_queued}
 use Rattle.law_world.specs.streams.put_laws.HeldLaws.{NewDriverMovesFew, CommandMovesFew, DriverMovesFew}
-use Rattle.law_world.proofs.lemmas.streams.lemmas.put_laws.Rows.{advanced_keeps}
 
 -- ---- notes
 
@@ -121,44 +115,11 @@ harvest_few p e t found due bulk k =
     subst (λ (o : Option Endpoint). AreFew (after_harvest d p.memory e t found o (slice_get d.transfers t)).notes) (sym due.here)
     (subst (λ (o : Option Transfer). AreFew (after_harvest d p.memory e t found (Some x) o).notes) (sym due.there) now)
 
--- ---- an endpoint is given back
-
-told_notes : (d : DriverContent) (m : Mem) (e : ℕ) (x : Endpoint) (b : Bool) → (cond b (reported d lines.Cancel x.desc.name (cancelled_bytes d.notes m e x.queue d.transfers)) d).notes ≡ d.notes
-told_notes d m e x true = refl
-told_notes d m e x false = refl
-
 -- ---- any row
 
-advanced_few : (d : DriverContent) → OnlyAsynchronous d → AreFew d.notes → AreFew (advance d).notes
-advanced_few d bulk k = subst AreFew (sym (advanced_keeps d d.command bulk.command).notes) k
-
-lent_few : (d : DriverContent) (q : Mem) → OnlyAsynchronous d → AreFew d.notes → AreFew (advance (record d { book = (lend_taken (holding d.book q)).book })).notes
-lent_few d q bulk k = let f : DriverContent = record d { book = (lend_taken (holding d.book q)).book } in subst AreFew (sym (advanced_keeps f d.command bulk.command).notes) k
-
 by_row : (p : DriverParts) (row : DriverRow) → OnlyAsynchronous p.driver → IsDue p row → AreFew p.driver.notes → AreFew (after_driver_row row p).driver.notes
-by_row p rows.Lend bulk due k = lent_few p.driver p.memory bulk k
-by_row p (rows.Store b at v) bulk due k = advanced_few p.driver bulk k
-by_row p (rows.Mend m) bulk due k = k
-by_row p rows.Frames bulk due k = subst (λ (f : DriverContent). AreFew f.notes) (sym (framed_same p.driver p.registers.frame_index p.driver.command bulk.command)) k
-by_row p rows.LendDescriptors bulk due k = lent_few p.driver (linked_by p.driver p.memory p.driver.command) bulk k
-by_row p (rows.Unlink t) bulk due k = absurd (none_there p.driver.periodic.unlinks t bulk.unlinks due.first)
-by_row p (rows.ReleaseRemoved what) bulk due k = absurd (none_there p.driver.periodic.removals due.removal bulk.removals due.first)
-by_row p (rows.ReleaseTransfer t) bulk due k = given_back (slice_get p.driver.transfers t)
-  where
-    given_back : (o : Option Transfer) → AreFew (after_transfer p t o (freed_by p.driver (holding p.driver.book p.memory) o)).driver.notes
-    given_back None = k
-    given_back (Some y) = k
-by_row p (rows.ReleaseEndpoint e) bulk due k = gone (slice_get p.driver.endpoints e)
-  where
-    gone : (o : Option Endpoint) → AreFew (after_endpoint p e o).driver.notes
-    gone None = k
-    gone (Some x) = subst AreFew (sym (told_notes p.driver p.memory e x (is_told x))) k
-by_row p rows.ClearAdvance bulk due k = k
-by_row p rows.RingBell bulk due k = k
-by_row p (rows.ReadStatus heard) bulk due k = k
-by_row p (rows.ReadFrame n) bulk due k = k
 by_row p (rows.Harvest e t found) bulk due k = harvest_few p e t found due bulk k
-by_row p rows.Rest bulk due k = k
+by_row p row bulk due k = subst AreFew (sym (notes_stays row p p.driver.command refl refl)) k
 
 pub driver_moves_few : DriverMovesFew
 driver_moves_few p bulk k = by_row p (driver_row p) bulk (each_event_is_due p) k

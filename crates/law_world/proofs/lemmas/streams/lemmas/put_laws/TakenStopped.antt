@@ -2,6 +2,7 @@
 use Rattle.std.proofs.Common.{◌≡◌, ◌≢◌, ℕ, suc, ◌-◌, ◌*◌, Bool, true, false, nat_le, if◌then◌else◌, List, [], ◌∷◌, ◌++◌, length, set, slice_get, option_map, Option, Some, None, ap, refl, sym, subst, ◌∙◌, ⊎_elim, inl, inr, arith}
 use Rattle.std.specs.Prelude.{◌⊎◌, nat_eq}
 use Rattle.std.proofs.lemmas.Bool.{cases_eq, false≢true, true≢false}
+use Rattle.law_footprints.proofs.Fields.{endpoints_stays}
 use Rattle.law_driver.proofs.Common.{waits_is}
 use Rattle.usb_base.specs.declared.endpoints.EndCause.{EndCause}
 use Rattle.usb_base.specs.declared.endpoints.EpDesc.{EpDesc}
@@ -10,7 +11,6 @@ use Rattle.usb_base.specs.declared.packets.Reply.{Reply}
 use Rattle.usb_base.specs.declared.reports.What.{What}
 use Rattle.usb_base.specs.declared.reports.What.TheVariants as lines
 use Rattle.word_mem.specs.Memory.{Mem}
-use Rattle.mem_runs.specs.Book.{Holding, holding}
 use Rattle.qh_qtd.specs.declared.queue_head.Qh.{Qh}
 use Rattle.qh_qtd.specs.declared.token.Token.{Token}
 use Rattle.hc_copy.specs.Overlay.{advanced}
@@ -25,7 +25,6 @@ use Rattle.drv_table.specs.declared.rows.Found.TheVariants as founds
 use Rattle.drv_table.specs.DriverContent.{DriverContent, waits_for, next_after}
 use Rattle.drv_table.specs.Harvests.{note_at, token_in, halt_of, moved_of, done_of, ends_by, end_of, is_stall, found_in, noted}
 use Rattle.drv_table.specs.Parts.{Parts}
-use Rattle.drv_table.specs.Releases.{freed_by, after_transfer}
 use Rattle.drv_table.specs.Harvesting.{mends_of, after_end, told_with, served, harvested_as, after_harvest}
 use Rattle.drv_table.specs.Rows.{driver_row, after_driver_row}
 use Rattle.law_driver.proofs.lemmas.endpoint_lives.Lives.{told_some}
@@ -111,27 +110,11 @@ were_ended d f parts were ended e z cause here alive sends over =
     let w : WasEnd d e z = were e z here in
     subst (λ (q : ℕ). IsStopped parts (32 * q)) (sym w.queue) (ended e w.endpoint cause w.here (sym w.gone ∙ alive) (ap (λ (r : EpDesc). receives r.name.way) (sym w.desc) ∙ sends) (sym w.ends ∙ over))
 
-transfer_ends : (p : Parts) (t : ℕ) (o : Option Transfer) (h : Holding) → (after_transfer p t o h).driver.endpoints ≡ p.driver.endpoints
-transfer_ends p t None h = refl
-transfer_ends p t (Some y) h = refl
-
 row_ends : (p : Parts) (row : DriverRow) → IsDue p row → OnlyAsynchronous p.driver → ((e t : ℕ) (found : Found) → row ≢ rows.Harvest e t found) → ((e : ℕ) → row ≢ rows.ReleaseEndpoint e) → WereEnds p.driver (after_driver_row row p).driver
 row_ends p (rows.ReleaseTransfer t) due bulk harvest endpoint =
-    ends_same p.driver (after_driver_row (rows.ReleaseTransfer t) p).driver (transfer_ends p t (slice_get p.driver.transfers t) (freed_by p.driver (holding p.driver.book p.memory) (slice_get p.driver.transfers t)))
-row_ends p rows.Lend due bulk harvest endpoint = (row_no_more p rows.Lend due bulk harvest (λ t is. cc) endpoint).alike.ends
-row_ends p (rows.Store b at v) due bulk harvest endpoint = (row_no_more p (rows.Store b at v) due bulk harvest (λ t is. cc) endpoint).alike.ends
-row_ends p (rows.Mend w) due bulk harvest endpoint = (row_no_more p (rows.Mend w) due bulk harvest (λ t is. cc) endpoint).alike.ends
-row_ends p rows.Frames due bulk harvest endpoint = (row_no_more p rows.Frames due bulk harvest (λ t is. cc) endpoint).alike.ends
-row_ends p rows.LendDescriptors due bulk harvest endpoint = (row_no_more p rows.LendDescriptors due bulk harvest (λ t is. cc) endpoint).alike.ends
-row_ends p (rows.Unlink t) due bulk harvest endpoint = (row_no_more p (rows.Unlink t) due bulk harvest (λ u is. cc) endpoint).alike.ends
-row_ends p (rows.ReleaseRemoved what) due bulk harvest endpoint = (row_no_more p (rows.ReleaseRemoved what) due bulk harvest (λ t is. cc) endpoint).alike.ends
-row_ends p (rows.ReleaseEndpoint e) due bulk harvest endpoint = absurd (endpoint e refl)
-row_ends p rows.ClearAdvance due bulk harvest endpoint = (row_no_more p rows.ClearAdvance due bulk harvest (λ t is. cc) endpoint).alike.ends
-row_ends p rows.RingBell due bulk harvest endpoint = (row_no_more p rows.RingBell due bulk harvest (λ t is. cc) endpoint).alike.ends
-row_ends p (rows.ReadStatus heard) due bulk harvest endpoint = (row_no_more p (rows.ReadStatus heard) due bulk harvest (λ t is. cc) endpoint).alike.ends
-row_ends p (rows.ReadFrame n) due bulk harvest endpoint = (row_no_more p (rows.ReadFrame n) due bulk harvest (λ t is. cc) endpoint).alike.ends
-row_ends p (rows.Harvest e t found) due bulk harvest endpoint = absurd (harvest e t found refl)
-row_ends p rows.Rest due bulk harvest endpoint = (row_no_more p rows.Rest due bulk harvest (λ t is. cc) endpoint).alike.ends
+    ends_same p.driver (after_driver_row (rows.ReleaseTransfer t) p).driver
+    (endpoints_stays (rows.ReleaseTransfer t) p p.driver.command refl refl)
+row_ends p row due bulk harvest endpoint = (row_no_more p row due bulk harvest (λ t is. cc) endpoint).alike.ends
 
 pub alike_stay_stopped : AlikeStayStopped
 alike_stay_stopped p parts turns harvest endpoint ended = were_ended p.driver (after_driver_row (driver_row p) p).driver parts (row_ends p (driver_row p) (each_event_is_due p) turns.asynchronous harvest endpoint) ended
