@@ -27,3 +27,17 @@ pub mod Opening
 pub mod WorkedBelow
 pub mod WorkedPut
 pub mod WorkedControl
+pub mod HostSettles
+pub mod HostRests
+pub mod HostOuts
+pub mod HostBeside
+pub mod HostInSettles
+pub mod HostIns
+pub mod HostInBeside
+pub mod HostBegins
+pub mod HostAsks
+pub mod HostOpens
+pub mod HostCarries
+pub mod OutEvents
+pub mod InEvents
+pub mod WorkedHosts

@@ -1,6 +1,7 @@
 -- The work of hubs where a microframe begins, as an IN endpoint below one of them sees it (USB 2.0, 11.17 and 11.18): a few events of the
 -- machine of its pipe.
 --     in_asked, in_answer         what is asked and answered, as the pipe says it
+--     SameReceiving l m           the host has in m what it has in l
 --     InWorkIsEvents              the law
 use Rattle.std.specs.Prelude.{◌≡◌, ℕ, Some}
 use Rattle.usb_base.specs.declared.packets.Dir.TheVariants as Directions
@@ -38,6 +39,12 @@ in_answer (Hand _) = Pipe.Nak
 abbrev pub sender_of_line : Line → Sender
 sender_of_line l = record { left = l.left; sends = l.sends }
 
+-- the host's side
+pub record SameReceiving (l m : Line) : Type 0 where
+  pub accepted : m.accepted ≡ l.accepted
+  pub expects : m.expects ≡ l.expects
+  pub going : m.going ≡ l.going
+
 -- a bus below shows the line
 pub record ShowsSender (fixed : Fixed) (k : Key) (w : Below) (l : Line) : Type 0 where
   pub same : w.fixed ≡ fixed
@@ -49,6 +56,7 @@ pub record InWorkOf (way : Way) (k : Key) (hub place frindex : ℕ) (s : KeySlot
     (v : Wired) : Type 0 where
   pub line : Line
   pub slot : KeySlot
+  pub host : SameReceiving l line
   pub sender : sender_at v k.addr k.ep ≡ Some (sender_of_line line)
   pub has : HubsHave way k hub place v.bus.hubs slot
   pub right : AreRightHubs (IsOfKind k) v.bus.hubs

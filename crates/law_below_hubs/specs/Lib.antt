@@ -18,3 +18,8 @@ pub mod Opening
 pub mod WorkedBelow
 pub mod WorkedPut
 pub mod WorkedControl
+pub mod HostOuts
+pub mod HostIns
+pub mod HostEvents
+pub mod HostOpens
+pub mod WorkedHosts

@@ -2,6 +2,7 @@
 -- machine of its pipe.
 --     IsPut                   what is asked for the key is a data packet for its endpoint
 --     out_asked, out_answer   what is asked and answered, as the pipe says it
+--     SameSending l m         the host knows and sends in m what it does in l
 --     OutWorkIsEvents         the law
 use Rattle.std.specs.Prelude.{◌≡◌, ℕ, Bool, Some}
 use Rattle.std.specs.List.{concat}
@@ -53,6 +54,13 @@ out_answer (Hand _) = Pipe.Nak
 abbrev pub taker_of_line : Line → Taker
 taker_of_line l = record { taken = concat l.taken; expects = l.expects }
 
+-- the host's side
+pub record SameSending (l m : Line) : Type 0 where
+  pub known : m.known ≡ l.known
+  pub rest : m.rest ≡ l.rest
+  pub sends : m.sends ≡ l.sends
+  pub going : m.going ≡ l.going
+
 -- a bus below shows the line
 pub record ShowsTaker (fixed : Fixed) (k : Key) (w : Below) (l : Line) : Type 0 where
   pub same : w.fixed ≡ fixed
@@ -64,6 +72,7 @@ pub record OutWorkOf (way : Way) (k : Key) (hub place frindex : ℕ) (s : KeySlo
     (v : Wired) : Type 0 where
   pub line : Line
   pub slot : KeySlot
+  pub host : SameSending l line
   pub taker : taker_at v k.addr k.ep ≡ Some (taker_of_line line)
   pub has : HubsHave way k hub place v.bus.hubs slot
   pub right : AreRightHubs (IsPut k) v.bus.hubs

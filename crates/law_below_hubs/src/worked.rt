@@ -5,6 +5,7 @@ ghost use Rattle.law_below_hubs.specs.Raised.{sender_below};
 ghost use Rattle.law_below_hubs.specs.Seated.{sender_at, sender_on};
 ghost use Rattle.law_below_hubs.specs.WorkedBelow.{StartIsTaken, ResultIsThere, OtherKindBreaks, NamesTheHub, wrong, before, after, enabled_below, disabled_below};
 ghost use Rattle.law_below_hubs.specs.WorkedControl as read;
+ghost use Rattle.law_below_hubs.specs.WorkedHosts as hosts;
 ghost use Rattle.law_below_hubs.specs.WorkedPut as put;
 ghost use Rattle.bus_wire.specs.Samples.{opened, stepped, Begins};
 
@@ -51,4 +52,21 @@ pub fn a_read_is_in_turn()
     ensures too_long { read.TooLongBreaks }
     ensures stands { read.SetupStands }
     ensures wrong { read.WrongAskBreaks }
+{}
+
+/// Before the first start of an OUT, once its host heard the ACK, and when the result came, all three stand as they must; not where the
+/// host sent nothing. So they do for an IN, but not with a device that has nothing to send.
+pub fn hosts_stand_below()
+    ensures opens { hosts.Opens }
+    ensures starts { hosts.Starts }
+    ensures result { hosts.ResultComes }
+    ensures unsent { hosts.UnsentBreaks }
+    ensures read { hosts.ReadStarts }
+    ensures no_stream { hosts.NoStreamBreaks }
+{}
+
+/// The queue head of a full-speed endpoint meets the premises of an event, and one that tells high speed doesn't.
+pub fn a_queue_head_is_below()
+    ensures full { hosts.IsBelow }
+    ensures high { hosts.HighBreaks }
 {}

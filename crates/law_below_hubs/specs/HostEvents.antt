@@ -1,0 +1,153 @@
+-- A bulk endpoint below a hub at an event of the controller, whichever walk it is of (EHCI 1.0, 4.8 to 4.12; USB 2.0, 8.6 and 11.17).
+--     hand_host hand n q       the host's side of the queue head q at n, which a transaction left that isn't written back, or its overlay
+--     RestsToStart host        a host that rests, and isn't halted, starts next
+--     StartsFirst part         each published qTD begins with a start-split
+--     IsHostLike before now    an event that makes no transaction leaves it so
+--     IsApart hand n           no transaction of the queue head at n is to be written back
+--     told_key dir x           the key of an endpoint that a queue head tells
+--     IsOutBehind, IsInBehind  the queue head at n is that of a bulk endpoint below the hub, and host, hub and device stand as they must
+--     AsksElse dir part x y    a queue head of the endpoint y asks not x, or only in the other direction
+--     AsksAlone dir near parts n x     so does each other queue head that is met
+--     EventKeepsOutBehind, EventKeepsInBehind     each event keeps it so
+use Rattle.std.specs.Prelude.{◌≡◌, ◌≢◌, ℕ, ◌⊎◌, ◌==◌, Bool, true, false, not, List, ◌++◌, Option, Some, if◌then◌else◌}
+use Rattle.usb_base.specs.declared.packets.Ask.{Ask}
+use Rattle.usb_base.specs.declared.packets.Dir.{Dir}
+use Rattle.usb_base.specs.declared.packets.Dir.TheVariants as Directions
+use Rattle.usb_base.specs.declared.packets.EpKind.TheVariants as Kinds
+use Rattle.usb_base.specs.declared.packets.Reply.{Reply}
+use Rattle.hub_keys.specs.declared.key.Key.{Key}
+use Rattle.bus_wire.specs.Bus.{Wired}
+use Rattle.qh_qtd.specs.declared.qtd.Qtd.{Qtd}
+use Rattle.qh_qtd.specs.declared.queue_head.Qh.{Qh}
+use Rattle.drv_table.specs.DriverContent.{DriverContent}
+use Rattle.toggle_error.specs.declared.host.HostSide.{HostSide}
+use Rattle.hc_copy.specs.Planning.{host_in}
+use Rattle.hc_core.specs.Controller.{Content}
+use Rattle.claims_base.specs.Controller.{Base}
+use Rattle.law_structures.specs.lent_structures.Structures.{QueueHead, Element, Structures, StructureSets}
+use Rattle.law_ring.specs.Hand.{Copy, Settlement, Hand, Empty, Copied, Settled, Stale}
+use Rattle.law_ring.specs.QueueParts.{IsQueuePart}
+use Rattle.law_ring.specs.Told.{Endpoint, endpoint_of, HasEndpoint}
+use Rattle.law_ring.specs.OutPipes.{IsOut}
+use Rattle.law_ring.specs.Pipes.{IsIn}
+use Rattle.law_frames.specs.Met.{Kind, AQueue}
+use Rattle.law_frames.specs.FrameHand.{FrameHand}
+use Rattle.law_frames.specs.FrameStreams.{IsIsoAsk}
+use Rattle.law_controller.specs.frame_control.Both.{RunsBoth, BothEffect}
+use Rattle.law_controller.specs.frame_control.Joined.{joined, BothStreamEffect}
+use Rattle.law_devices.specs.scripted_requests.Controls.{transacts_by, begins_by}
+use Rattle.law_descriptors.specs.Both.{both, parts_now}
+use Rattle.law_descriptors.specs.PartLaws.{IsDescribing}
+use Rattle.law_descriptors.specs.queue_events.Streams.{bytes_of_both}
+use Rattle.law_descriptors.specs.queue_events.Pipes.{AskedAreNear}
+use Rattle.law_below_hubs.specs.HostIns.{InSide, SparesKey}
+use Rattle.law_below_hubs.specs.HostOuts.{OutHost, IsOfOther}
+use Rattle.law_below_hubs.specs.Splits.{IsAtHub}
+
+-- ---- the host's side
+
+abbrev pub hand_host : Hand → ℕ → Qh → HostSide
+hand_host Empty n q = host_in q
+hand_host (Copied c) n q = host_in q
+hand_host (Settled c z) n q = if c.at == n then z.host else host_in q
+hand_host (Stale m old) n q = host_in q
+
+abbrev pub RestsToStart : HostSide → Type 0
+RestsToStart host = host.active ≡ false → host.halted ≡ false → host.waiting ≡ false
+
+abbrev pub StartsFirst : Structures → Type 0
+StartsFirst part = (a : ℕ) (t : Qtd) → part a ≡ Some (Element t) → t.token.active ≡ true → t.token.split_state ≡ false
+
+-- what an event leaves of it that makes no transaction; one that was halted stays so, until it is mended
+pub record IsHostLike (before now : HostSide) : Type 0 where
+  pub waiting : now.waiting ≡ before.waiting
+  pub rests : RestsToStart now
+  pub halted : now.halted ≡ false → before.halted ≡ false
+
+abbrev pub IsApart : Hand → ℕ → Type 0
+IsApart hand n = (c : Copy) (z : Settlement) → hand ≡ Settled c z → c.at ≡ n → ⊥
+
+-- ---- the pipe
+
+abbrev pub told_key : Dir → Endpoint → Key
+told_key dir x = record { addr = x.addr; ep = x.ep; dir = dir; kind = Kinds.Bulk }
+
+pub record IsOutBehind (w : Wired) (i place : ℕ) (known : List ℕ) (parts : StructureSets) (hand : Hand) (n : ℕ)
+    (x : Endpoint) : Type 0 where
+  pub queue : Qh
+  pub head : parts n n ≡ Some (QueueHead queue)
+  pub is : x ≡ endpoint_of queue
+  pub below : (x.speed == 2) ≡ false
+  -- its packets have the toggle of the queue head (3.6.2)
+  pub own : x.dtc ≡ false
+  pub outs : IsOut (parts n)
+  pub first : StartsFirst (parts n)
+  pub rests : RestsToStart (hand_host hand n queue)
+  pub hub : IsAtHub w.bus.hubs x.hub x.port i place
+  pub host : OutHost (parts n) hand n queue i place w (hand_host hand n queue).toggle (hand_host hand n queue).waiting known
+
+-- where the host hasn't halted, both ends agree in the packets
+pub record IsInBehind (packets : List (List ℕ)) (w : Wired) (i place : ℕ) (known : List ℕ) (parts : StructureSets) (hand : Hand) (n : ℕ)
+    (x : Endpoint) : Type 0 where
+  pub queue : Qh
+  pub head : parts n n ≡ Some (QueueHead queue)
+  pub is : x ≡ endpoint_of queue
+  pub below : (x.speed == 2) ≡ false
+  pub own : x.dtc ≡ false
+  pub ins : IsIn (parts n)
+  pub first : StartsFirst (parts n)
+  pub rests : RestsToStart (hand_host hand n queue)
+  pub hub : IsAtHub w.bus.hubs x.hub x.port i place
+  pub side : InSide packets (told_key Directions.In x) i place w (hand_host hand n queue).toggle (hand_host hand n queue).waiting
+      (not (hand_host hand n queue).halted) known
+
+-- ---- who asks
+
+abbrev pub AsksBack : Dir → Structures → Type 0
+AsksBack Directions.Out part = IsIn part
+AsksBack Directions.In part = IsOut part
+
+abbrev pub AsksElse : Dir → Structures → Endpoint → Endpoint → Type 0
+AsksElse dir part x y = (x.addr ≡ y.addr → x.ep ≡ y.ep → ⊥) ⊎ AsksBack dir part
+
+abbrev pub AsksAlone : Dir → (ℕ → Bool) → StructureSets → ℕ → Endpoint → Type 0
+AsksAlone dir near parts n x = (m : ℕ) → near m ≡ true → m ≢ n → (y : Endpoint) × HasEndpoint parts m y × AsksElse dir (parts m) x y
+
+-- ---- the law
+
+-- where the hub keeps its address and its translators
+abbrev pub EventKeepsOutBehind : Type 0
+EventKeepsOutBehind = (near : ℕ → Bool) (n : ℕ) (x : Endpoint) (i place : ℕ) (known : List ℕ) (base : Base) (member : ℕ → Bool)
+    (met : ℕ → Option Kind) (d : DriverContent) (descs parts : StructureSets) (hand : Hand) (frame : FrameHand) (c : Content)
+    (wire after : Wired) (now : StructureSets) (later : Hand) (frame_later : FrameHand) → IsDescribing d descs parts
+    → RunsBoth base member met (both descs parts) hand frame c
+    → BothEffect begins_by transacts_by (both descs parts) c.control hand frame wire after now later frame_later
+    → AskedAreNear near parts (joined hand frame) → AsksAlone Directions.Out near parts n x
+    → ((ask : Ask) → IsIsoAsk (both descs parts) ask → IsOfOther (told_key Directions.Out x) ask)
+    → (met n ≡ Some AQueue → ⊥) → IsQueuePart n (parts n) → IsQueuePart n (parts_now descs parts now n)
+    → IsAtHub after.bus.hubs x.hub x.port i place
+    → (z : BothStreamEffect begins_by (IsIsoAsk (both descs parts)) transacts_by parts (joined hand frame) wire after
+    (parts_now descs parts now) (joined later frame_later))
+    → IsOutBehind wire i place known parts (joined hand frame) n x
+    → IsOutBehind after i place (known ++ bytes_of_both n z) (parts_now descs parts now) (joined later frame_later) n x
+
+-- no request is made that takes the key from a hub
+abbrev pub SparesKeyNow : Key → ℕ → ℕ → Wired → Wired → Type 0
+SparesKeyNow k i place wire after = (ask : Ask) (out : List ℕ) (reply : Reply) → transacts_by wire ask out reply after
+    → SparesKey k i place wire ask after
+
+abbrev pub EventKeepsInBehind : Type 0
+EventKeepsInBehind = (packets : List (List ℕ)) (near : ℕ → Bool) (n : ℕ) (x : Endpoint) (i place : ℕ) (known : List ℕ) (base : Base)
+    (member : ℕ → Bool)
+    (met : ℕ → Option Kind) (d : DriverContent) (descs parts : StructureSets) (hand : Hand) (frame : FrameHand) (c : Content)
+    (wire after : Wired) (now : StructureSets) (later : Hand) (frame_later : FrameHand) → IsDescribing d descs parts
+    → RunsBoth base member met (both descs parts) hand frame c
+    → BothEffect begins_by transacts_by (both descs parts) c.control hand frame wire after now later frame_later
+    → AskedAreNear near parts (joined hand frame) → AsksAlone Directions.In near parts n x
+    → ((ask : Ask) → IsIsoAsk (both descs parts) ask → IsOfOther (told_key Directions.In x) ask)
+    → (met n ≡ Some AQueue → ⊥) → IsQueuePart n (parts n) → IsQueuePart n (parts_now descs parts now n)
+    → IsAtHub after.bus.hubs x.hub x.port i place → SparesKeyNow (told_key Directions.In x) i place wire after
+    → (z : BothStreamEffect begins_by (IsIsoAsk (both descs parts)) transacts_by parts (joined hand frame) wire after
+    (parts_now descs parts now) (joined later frame_later))
+    → IsInBehind packets wire i place known parts (joined hand frame) n x
+    → IsInBehind packets after i place (known ++ bytes_of_both n z) (parts_now descs parts now) (joined later frame_later) n x

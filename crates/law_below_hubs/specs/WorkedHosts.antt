@@ -1,0 +1,57 @@
+-- The host of the bulk OUT endpoint behind port 1 of hub 9, before its first start-split, once it heard the hub's ACK, and in the
+-- microframe after; and that of the IN endpoint, which heard the ACK of its start.
+--     Opens, Starts, ResultComes     host, hub and device stand as they must
+--     UnsentBreaks                   not where the host sent nothing, and the hub has a packet
+--     ReadStarts                     so they do for an IN; `NoStreamBreaks`: not where the device has nothing to send
+--     IsBelow, HighBreaks            its queue head, which rests, is that of an endpoint below the hub; not where it tells high speed
+use Rattle.std.specs.Prelude.{ℕ, ◌==◌, true, false, [], ◌∷◌, Some, None, if◌then◌else◌}
+use Rattle.bus_wire.specs.Bus.{opening_wired}
+use Rattle.qh_qtd.specs.declared.queue_head.Qh.{Qh}
+use Rattle.qh_qtd.specs.Blank.{blank_head}
+use Rattle.law_structures.specs.lent_structures.Structures.{QueueHead, Structures, StructureSets}
+use Rattle.law_ring.specs.Hand.{Empty}
+use Rattle.law_ring.specs.Told.{endpoint_of}
+use Rattle.law_below_hubs.specs.HostEvents.{IsOutBehind}
+use Rattle.law_below_hubs.specs.HostIns.{InSide}
+use Rattle.law_below_hubs.specs.HostOuts.{OutSide}
+use Rattle.law_below_hubs.specs.WorkedBelow as inward
+use Rattle.law_below_hubs.specs.WorkedPut.{key, put_script, one_byte, started, begun}
+
+-- ---- OUT
+
+abbrev pub Opens : Type 0
+Opens = OutSide key 0 0 (opening_wired put_script) false false [] None
+
+abbrev pub Starts : Type 0
+Starts = OutSide key 0 0 started false true [] (Some one_byte)
+
+abbrev pub ResultComes : Type 0
+ResultComes = OutSide key 0 0 begun false true [] (Some one_byte)
+
+abbrev pub UnsentBreaks : Type 0
+UnsentBreaks = OutSide key 0 0 started false true [] None → ⊥
+
+-- ---- IN
+
+abbrev pub ReadStarts : Type 0
+ReadStarts = InSide (inward.three_bytes ∷ []) inward.key 0 0 inward.started false true true []
+
+abbrev pub NoStreamBreaks : Type 0
+NoStreamBreaks = InSide [] inward.key 0 0 inward.started false true true [] → ⊥
+
+-- ---- a queue head
+
+abbrev pub queue_at : ℕ → Qh
+queue_at speed = record blank_head { addr = 3; ep = 2; eps = speed; max = 64; hub = 9; port = 1 }
+
+abbrev pub part_of : ℕ → Structures
+part_of speed a = if a == 64 then Some (QueueHead (queue_at speed)) else None
+
+abbrev pub parts_of : ℕ → StructureSets
+parts_of speed n = part_of speed
+
+abbrev pub IsBelow : Type 0
+IsBelow = IsOutBehind (opening_wired put_script) 0 0 [] (parts_of 0) Empty 64 (endpoint_of (queue_at 0))
+
+abbrev pub HighBreaks : Type 0
+HighBreaks = IsOutBehind (opening_wired put_script) 0 0 [] (parts_of 2) Empty 64 (endpoint_of (queue_at 2)) → ⊥

@@ -1,0 +1,25 @@
+//! The host of a bulk endpoint below a hub, its device, and what the hub has of their key.
+ghost use Rattle.law_below_hubs.specs.HostIns.{OwnInGoesOn, OthersLeaveIn, BeginLeavesIn, InBegins};
+ghost use Rattle.law_below_hubs.specs.HostOuts.{OwnOutGoesOn, OthersLeaveOut, BeginLeavesOut, OutIsTaken};
+
+/// Each transaction of the host of an OUT endpoint leaves all three as they must stand, with the bytes known that it moved; so does each of
+/// another host, a request to clear the hub's buffers among them, and so does the work of the hubs where a microframe begins.
+pub fn an_out_host_goes_on()
+    ensures own { OwnOutGoesOn }
+    ensures others { OthersLeaveOut }
+    ensures begins { BeginLeavesOut }
+{}
+
+/// So it is of an IN endpoint, with the bytes that came; but where a request clears the hub's buffers.
+pub fn an_in_host_goes_on()
+    ensures own { OwnInGoesOn }
+    ensures others { OthersLeaveIn }
+    ensures begins { BeginLeavesIn }
+{}
+
+/// What the device of such an OUT endpoint took begins with the bytes that the host knows, and goes on with no more than the packet on
+/// its way; what came from an IN endpoint begins its packets.
+pub fn what_moves_below_begins_the_stream()
+    ensures outward { OutIsTaken }
+    ensures inward { InBegins }
+{}
