@@ -10,7 +10,7 @@ import sys
 
 from sources import crates
 
-MOST = 1_250_000
+MOST = 1_300_000
 
 
 def ways():

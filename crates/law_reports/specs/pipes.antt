@@ -6,3 +6,4 @@ pub mod FollowedLaws
 pub mod Samples
 pub mod high_streams
 pub mod puts
+pub mod below_hubs

@@ -1,6 +1,7 @@
 //! The streams of the endpoints at high speed of a world with endpoints of every kind (EHCI 1.0, 4.6 to 4.11; USB 2.0, 5.7, 5.8, 8.5 and
 //! 8.6): both sides of the pipe of each bulk and interrupt endpoint agree, whatever else is open; and the streams of the report are right.
 //!
+//! - `below_hubs`: Those of bulk endpoints below hubs, at each step of the driver.
 //! - `keeping`: The streams of the report are right at each moment of each script, and after its run.
 //! - `piped_events`: Both sides of each pipe agree at each moment of each script: it stays at each event and at each command.
 //! - `reports`, `reports_worked`: Where their pipes agree the streams of the report are right (EHCI 1.0, 4.6, 4.8 and 4.10; USB 2.0, 5.7,
@@ -12,6 +13,7 @@
 //!
 //! The module has no code of its own: each function is a law, and its body is empty.
 
+pub mod below_hubs;
 pub mod keeping;
 pub mod piped_events;
 pub mod puts_worked;

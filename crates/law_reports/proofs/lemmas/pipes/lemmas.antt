@@ -1,2 +1,3 @@
 pub mod high_streams
 pub mod puts
+pub mod below_hubs

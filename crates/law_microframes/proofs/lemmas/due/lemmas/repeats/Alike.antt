@@ -136,7 +136,7 @@ worked_count : (frindex : ℕ) (ts : List Translator) (w : Below)
 worked_count frindex [] w = refl
 worked_count frindex (t ∷ ts) w = ap suc (worked_count frindex ts (wire_of_translator below_reply below_after t w))
 
-worked_alike : (fixed : Fixed) (frindex : ℕ) (hs : List HubContent) (floor : Floor) → AreAlike hs (hubs_worked fixed frindex hs floor)
+pub worked_alike : (fixed : Fixed) (frindex : ℕ) (hs : List HubContent) (floor : Floor) → AreAlike hs (hubs_worked fixed frindex hs floor)
 worked_alike fixed frindex [] floor = tt
 worked_alike fixed frindex (h ∷ hs) floor = (
   record { address = refl; multi = refl; count = worked_count frindex h.translators.all (below_at fixed h floor) },
@@ -154,7 +154,7 @@ changed_by_alike row (Answerers.Translator place stuff) ask out b =
     changed_alike b.hubs place (translator_after row ask out stuff) (λ h. translated_alike row ask out stuff h)
 changed_by_alike row Answerers.Nobody ask out b = all_itself b.hubs
 
-asks_alike_at : (fixed : Fixed) (b : Bus) (ask : Ask) (out : List ℕ) (o : Option Asked)
+pub asks_alike_at : (fixed : Fixed) (b : Bus) (ask : Ask) (out : List ℕ) (o : Option Asked)
     → AreAlike b.hubs (after_at fixed b ask out o).hubs
 asks_alike_at fixed b ask out None = all_itself b.hubs
 asks_alike_at fixed b ask out (Some e) = changed_by_alike (bus_row fixed b e ask out) e.who ask out b
@@ -177,7 +177,7 @@ same_at (z ∷ zs) (y ∷ ys) (suc i) x long here = same_at zs ys i x (less long
     less : {m n : ℕ} → suc m ≡ suc n → m ≡ n
     less e = cc
 
-at_alike : (hs ks : List HubContent) (i : ℕ) (h : HubContent) → AreAlike hs ks → slice_get hs i ≡ Some h
+pub at_alike : (hs ks : List HubContent) (i : ℕ) (h : HubContent) → AreAlike hs ks → slice_get hs i ≡ Some h
     → (k : HubContent) × (slice_get ks i ≡ Some k) × IsAlike h k
 at_alike [] [] i h all here = absurd cc
 at_alike [] (k ∷ ks) i h all here = absurd all
@@ -207,7 +207,7 @@ first_alike hub (h ∷ hs) (k ∷ ks) all =
           ap (λ (a : ℕ). a == hub) all.0.address ∙ off in rw (off, there) (ap (λ (n : ℕ). 1 + n) (first_alike hub hs ks all.1))
     ]
 
-found_alike : (hub : ℕ) (hs ks : List HubContent) → AreAlike hs ks
+pub found_alike : (hub : ℕ) (hs ks : List HubContent) → AreAlike hs ks
     → position (λ h. h.address == hub) ks ≡ position (λ h. h.address == hub) hs
 found_alike hub hs ks all =
     ap (λ (n : ℕ). cond (nat_lt n (length ks)) (Some n) None) (first_alike hub hs ks all)

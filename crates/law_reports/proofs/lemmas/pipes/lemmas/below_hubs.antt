@@ -1,0 +1,5 @@
+pub mod Spared
+pub mod Steps
+pub mod HubStays
+pub mod Asked
+pub mod Controlled

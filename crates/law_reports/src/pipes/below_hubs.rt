@@ -1,0 +1,29 @@
+//! Pipes of bulk endpoints below hubs, at the events of the controller and at the steps by which the driver goes on (EHCI 1.0, 4.12; USB
+//! 2.0, 8.6 and 11.17).
+ghost use Rattle.law_reports.specs.pipes.below_hubs.Controlled.{
+  ControllerKeepsWays,
+  ControllerKeepsOutBelow,
+  ControllerKeepsInBelow,
+  ControllerLeavesOut,
+  ControllerLeavesIn,
+};
+ghost use Rattle.law_reports.specs.pipes.below_hubs.Steps.{StepKeepsOutBehind, StepKeepsInBehind};
+
+/// Each step of a queue leaves host, hub and device of such an endpoint as they must stand, while its queue head is still met.
+pub fn a_step_keeps_a_pipe_below()
+    ensures outward { StepKeepsOutBehind }
+    ensures inward { StepKeepsInBehind }
+{}
+
+/// Each event of the controller, of either walk, does so too, whatever else is open; for an IN no request may take the key from the hub.
+pub fn an_event_keeps_a_pipe_below()
+    ensures ways { ControllerKeepsWays }
+    ensures outward { ControllerKeepsOutBelow }
+    ensures inward { ControllerKeepsInBelow }
+{}
+
+/// What hub and device have of such an endpoint that isn't met stays as it must: one that wasn't opened yet, or has left.
+pub fn an_event_leaves_an_unmet_pipe_below()
+    ensures outward { ControllerLeavesOut }
+    ensures inward { ControllerLeavesIn }
+{}
