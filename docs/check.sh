@@ -11,6 +11,7 @@ run python3 -B docs/check_claims.py
 run python3 -B docs/laws.py --check
 run python3 -B docs/crates.py --check
 run python3 -B docs/footprints.py --check
+run python3 -B docs/fanout.py --check
 run python3 -B docs/lines.py
 run python3 -B docs/ways.py
 run python3 -B docs/check_tools.py

@@ -1,15 +1,20 @@
 #!/usr/bin/env python3
 """Counts the functions of specs/ and proofs/ that split on nearly all cases of an enum: what one more case of it asks for.
 
-    docs/fanout.py          a row an enum
-    docs/fanout.py NAME     the files of that enum
+    docs/fanout.py            a row an enum
+    docs/fanout.py NAME       the files of that enum
+    docs/fanout.py --write    writes the rows into docs/CHANGING.md
+    docs/fanout.py --check    says whether the rows there are current, and exits with 1 if they aren't
 """
 import collections
 import pathlib
 import re
 import sys
 
-from sources import CRATES
+from sources import CRATES, TOP
+
+PAGE = TOP / "docs/CHANGING.md"
+HEAD = "| enum | cases | functions | files | crates |\n|---|---|---|---|---|\n"
 
 # Where each enum is declared, and how many of its cases a function may leave to a catch-all and still count.
 ENUMS = {
@@ -46,21 +51,38 @@ def splitting(path, name, variants, spare):
     return [it for it, had in found.items() if len(had) >= len(variants) - spare]
 
 
-def main():
-    wanted = sys.argv[1:]
+def rows(wanted):
+    """The table, with the files of the enum that is wanted."""
+    said = HEAD
     files = [it for it in sorted(CRATES.glob("*/*/**/*.antt")) if it.relative_to(CRATES).parts[1] in ("specs", "proofs")]
-    print("| enum | cases | functions | files | crates |\n|---|---|---|---|---|")
     for name, (crate, spare) in ENUMS.items():
         variants = cases(name, crate)
         if not variants or (wanted and name not in wanted):
             continue
         hits = {path: found for path in files if (found := splitting(path, name, variants, spare))}
         crates_hit = {path.relative_to(CRATES).parts[0] for path in hits}
-        print(f"| `{name}` of {crate} | {len(variants)} | {sum(map(len, hits.values()))} | {len(hits)} | {len(crates_hit)} |")
+        said += f"| `{name}` of {crate} | {len(variants)} | {sum(map(len, hits.values()))} | {len(hits)} | {len(crates_hit)} |\n"
         if wanted:
-            for path, found in hits.items():
-                print(f"    {path.relative_to(CRATES)}: {', '.join(found)}")
+            said += "".join(f"    {path.relative_to(CRATES)}: {', '.join(found)}\n" for path, found in hits.items())
+    return said
+
+
+def main():
+    wanted = [it for it in sys.argv[1:] if not it.startswith("--")]
+    if not {"--write", "--check"} & {*sys.argv[1:]}:
+        print(rows(wanted), end="")
+        return 0
+    page = PAGE.read_text()
+    before, _, behind = page.partition(HEAD)
+    there = re.match(r"(?:\|.*\n)*", behind)[0]
+    current = before + rows([]) + behind[len(there):]
+    if "--write" in sys.argv[1:]:
+        PAGE.write_text(current)
+    elif current != page:
+        print("docs/CHANGING.md counts other functions than there are: docs/fanout.py --write")
+        return 1
+    return 0
 
 
 if __name__ == "__main__":
-    main()
+    sys.exit(main())

@@ -6,4 +6,5 @@ python3 -B docs/check_rules.py --mend >/dev/null
 python3 -B docs/theorem.py
 python3 -B docs/laws.py
 python3 -B docs/crates.py
+python3 -B docs/fanout.py --write
 docs/check.sh
