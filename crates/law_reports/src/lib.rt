@@ -6,6 +6,7 @@
 //! - `lines`: What is told of a queue is what was moved of it, in order.
 //! - `pipes`: Both sides of each pipe at high speed agree, so the streams of the report are right.
 //! - `queues`: What queue heads come to.
+//! - `quiet`: What is never told of endpoints at high speed.
 //! - `requests`: The control requests of asynchronous scripts.
 //!
 //! The crate has no code of its own: each function is a law, and its body is empty.
@@ -16,4 +17,5 @@ pub mod due_at_begin;
 pub mod lines;
 pub mod pipes;
 pub mod queues;
+pub mod quiet;
 pub mod requests;

@@ -58,6 +58,7 @@ pub record IsReadyHead (d : DriverContent) (m : Mem) : Type 0 where
   pub opened : IsOpened d m number (runs_of_endpoint endpoint) queue
   pub asks : endpoint_of queue ≡ asked_as endpoint.desc
   pub first : queue.token.toggle ≡ false
+  pub fresh : (queue.token.missed ≡ false) × (queue.token.halted ≡ false)
 
 -- they are to be lent still, or are
 module _ (d : DriverContent) (m : Mem) (owners : HasOwners d) (member : ℕ → Bool) (recent : ℕ → Option Kind) (parts : StructureSets)
@@ -78,6 +79,7 @@ module _ (d : DriverContent) (m : Mem) (owners : HasOwners d) (member : ℕ → 
     opened = r.opened;
     asks = refl;
     first = refl;
+    fresh = (refl, refl);
   }
 
   of_frames : IsChainToLend d m → IsReadyHead d m
@@ -91,6 +93,7 @@ module _ (d : DriverContent) (m : Mem) (owners : HasOwners d) (member : ℕ → 
     opened = k.ready.opened;
     asks = refl;
     first = refl;
+    fresh = (refl, refl);
   }
 
   lent_once : IsOpenLent d member parts → Stage
@@ -158,16 +161,16 @@ module _ (s : Standing) (w : World) (mixed : IsMixedAt s w) (k : IsOpenToLend (q
   owners : HasOwners w.driver
   owners = mixed.now.framed.place.sound.owners
 
-  r : IsReadyHead w.driver w.memory
+  pub r : IsReadyHead w.driver w.memory
   r =
       ⊎_elim (λ (r : IsReadyHead w.driver w.memory). r)
       (λ (one : (queued w.driver).made ≡ 1). absurd (zero_one (sym k.made ∙ one)))
       (stage w.driver w.memory owners s.member s.recent s.parts k.endpoint.queue k.command w.driver.command refl mixed.under_way)
 
-  one_queue : k.endpoint.queue ≡ r.endpoint.queue
+  pub one_queue : k.endpoint.queue ≡ r.endpoint.queue
   one_queue = same_queue k.endpoint.queue r.endpoint.queue (sym k.command ∙ r.command)
 
-  head_is : k.queue ≡ r.queue
+  pub head_is : k.queue ≡ r.queue
   head_is = same_head k.queue r.queue k.opened.range r.opened.range
       (sym k.opened.queue_words ∙ ap (λ (b : ℕ). words_at w.memory (32 * b) 12) one_queue ∙ r.opened.queue_words)
 

@@ -39,7 +39,7 @@ use Rattle.law_reports.specs.pipes.Piped.{Heads, AreLeft}
 use Rattle.law_reports.specs.pipes.PipedLaws.{NewWorldIsPiped}
 use Rattle.law_reports.proofs.lemmas.pipes.NamesKept.{new_descriptors_named}
 
-abbrev new_standing : Standing
+abbrev pub new_standing : Standing
 new_standing = record {
   member = is_head;
   near = is_head;
@@ -60,7 +60,7 @@ no_lines = record { acc = λ n. []; reported = λ n. [] }
 abbrev no_heads : Heads
 no_heads = record { ins = λ n. false; outs = λ n. false; ends = λ n. endpoint_of opening_head }
 
-new_mixed : (s : Script) → IsFit s → IsByteScript s → IsMixedAt new_standing (opening_world s)
+pub new_mixed : (s : Script) → IsFit s → IsByteScript s → IsMixedAt new_standing (opening_world s)
 new_mixed s fit bytes = record {
   now = new_is_framed_now s.words (room_of_script s) fit.least fit.most fit.whole_pages;
   turns = new_driver_queues s.words (room_of_script s);

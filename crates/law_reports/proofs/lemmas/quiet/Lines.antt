@@ -1,0 +1,238 @@
+-- Each line that tells a missed microframe is of an endpoint below a hub.
+use Rattle.std.proofs.Common.{◌≡◌, ◌≢◌, ℕ, zero, suc, ◌*◌, Bool, true, false, List, [], ◌∷◌, ◌++◌, length, slice_get, Option, Some, None}
+use Rattle.std.proofs.Common.{Result, Ok, Err, ap, refl, sym, subst, ◌∙◌, ⊎_elim, inl, inr}
+use Rattle.std.specs.Prelude.{◌⊎◌}
+use Rattle.std.proofs.lemmas.Bool.{false≢true, true≢false}
+use Rattle.std.proofs.lemmas.Option.{same_Some}
+use Rattle.usb_base.specs.declared.commands.Cmd.{Cmd}
+use Rattle.usb_base.specs.declared.endpoints.EpDesc.{EpDesc}
+use Rattle.usb_base.specs.declared.endpoints.EndCause.TheVariants as causes
+use Rattle.usb_base.specs.declared.endpoints.EpName.{EpName}
+use Rattle.usb_base.specs.declared.packets.Speed.{Speed}
+use Rattle.usb_base.specs.declared.packets.Speed.TheVariants as speeds
+use Rattle.usb_base.specs.declared.reports.OfferError.{OfferError}
+use Rattle.usb_base.specs.declared.reports.Report.{Report}
+use Rattle.usb_base.specs.declared.reports.What.{What}
+use Rattle.usb_base.specs.declared.reports.What.TheVariants as lines
+use Rattle.script_types.specs.declared.scripts.Script.{Script}
+use Rattle.script_text.specs.Faults.{Spells}
+use Rattle.bus_wire.specs.Bus.{fixed_of}
+use Rattle.qh_qtd.specs.declared.queue_head.Qh.{Qh}
+use Rattle.qh_qtd.specs.declared.token.Token.{Token}
+use Rattle.mem_queues.specs.Structures.{queue_head_at_address}
+use Rattle.drv_table.specs.declared.content.Endpoint.{Endpoint}
+use Rattle.drv_table.specs.declared.content.QtdNote.{QtdNote}
+use Rattle.drv_table.specs.declared.content.Transfer.{Transfer}
+use Rattle.drv_table.specs.Accepting.{Offered}
+use Rattle.drv_table.specs.DriverContent.{DriverContent}
+use Rattle.drv_table.specs.Offers.{offered}
+use Rattle.drv_table.specs.Parts.{Parts}
+use Rattle.drv_table.specs.Rows.{driver_row}
+use Rattle.drv_table.specs.Words.{is_high, speed_field}
+use Rattle.claims_answers.specs.Telling.{token_of, HasReason, done, missed, babbled, failed, stalled, IsToldByToken, Reason, by_token}
+use Rattle.claims_answers.specs.Telling.{behind, by_slots, by_cancel, AreTold, nothing, one_more}
+use Rattle.claims_driver.specs.Owners.{is_descriptor}
+use Rattle.law_driver.proofs.Common.{pushed}
+use Rattle.law_driver.specs.queued_drivers.Queued.{queued, with_queue}
+use Rattle.law_driver.specs.queued_drivers.Rows.{TellsAlike}
+use Rattle.law_driver.proofs.lemmas.queued_drivers.CommandReasons.{reason_of}
+use Rattle.law_structures.specs.lent_structures.Structures.{QueueHead}
+use Rattle.law_structures.proofs.lemmas.lent_structures.Reading.{head_read}
+use Rattle.law_ring.specs.Told.{Endpoint as Told, endpoint_of, HasEndpoint}
+use Rattle.law_telling.proofs.Lines.{drivers_tell_for_reasons}
+use Rattle.bus_world.specs.Budgets.{moment}
+use Rattle.bus_world.specs.World.{World, driver_parts, driver_next, name_in, commanded_by, commanded}
+use Rattle.law_world.specs.memory.Mixed.{Standing, IsMixedAt}
+use Rattle.law_world.proofs.lemmas.memory.Carrying.{carrying}
+use Rattle.law_world.proofs.lemmas.memory.HarvestKept.{tells_of}
+use Rattle.law_reports.specs.pipes.Declared.{sides_of}
+use Rattle.law_reports.specs.pipes.Piped.{asked_as, HasPiped}
+use Rattle.law_reports.proofs.lemmas.pipes.Accepted.{EndsThen, one_more as one_endpoint_more, one_anew, ends_then, now_anew}
+use Rattle.law_reports.proofs.lemmas.pipes.Across.{IsNowIn, is_now_in, row_ends}
+use Rattle.law_reports.proofs.lemmas.pipes.Moments.{texts_are_piped}
+use Rattle.law_reports.specs.quiet.Errors.{key_of}
+use Rattle.law_reports.specs.quiet.Laws.{IsUnmissedWorld, IsOf, MissesAreBelow, TextsMissBelow}
+use Rattle.law_reports.proofs.lemmas.quiet.Tokens.{token_there, is_met, part_there, head_there, token_read, queue_is, met_as}
+use Rattle.law_reports.proofs.lemmas.quiet.Worlds.{texts_miss_none}
+
+-- ---- the tokens that are read
+
+abbrev pub ReadsUnmissed : World → Type 0
+ReadsUnmissed w = (t : ℕ) (y : Transfer) (x : Endpoint) → slice_get w.driver.transfers t ≡ Some y
+    → slice_get w.driver.endpoints y.endpoint ≡ Some x
+    → is_descriptor y.sort ≡ false → y.reported ≡ false → x.ended ≡ None → is_high x.desc.speed ≡ true
+    → (token_of w.memory y.place).missed ≡ false
+
+-- a queue head that is met is asked by its endpoint's own speed
+module _ (s : Script) (w : World) (k : HasPiped (fixed_of s) (sides_of s) w) (e n : ℕ) (z : Endpoint) (q : Qh)
+    (here : slice_get w.driver.endpoints e ≡ Some z)
+    (at : n ≡ 32 * z.queue) (near : k.standing.near n ≡ true) (ends : k.heads.ends n ≡ asked_as z.desc)
+    (read : queue_head_at_address w.memory n ≡ Some q) where
+  named : (b : Bool) → k.heads.ins n ≡ b → HasEndpoint k.standing.parts n (k.heads.ends n)
+  named true on = (k.piped.pipes.in_pipes.pipes n on).named
+  named false off = (k.piped.pipes.in_pipes.others n near off).0
+
+  asked : endpoint_of q ≡ asked_as z.desc
+  asked =
+      let h = named (k.heads.ins n) refl in
+      let same : h.queue ≡ q = same_Some h.queue q
+      (sym (head_read w.memory k.standing.parts n n h.queue (tells_of k.standing w k.piped.mixed) h.head) ∙ read) in
+      ap endpoint_of (sym same) ∙ sym h.is ∙ ends
+
+high_eps : (x : EpDesc) → is_high x.speed ≡ true → (asked_as x).speed ≡ 2
+high_eps x high = by x.speed high
+  where
+    by : (v : Speed) → is_high v ≡ true → speed_field v ≡ 2
+    by speeds.High on = refl
+    by speeds.Full on = absurd (false≢true on)
+    by speeds.Low on = absurd (false≢true on)
+
+reads_unmissed : (s : Script) (w : World) → IsUnmissedWorld w → HasPiped (fixed_of s) (sides_of s) w → ReadsUnmissed w
+reads_unmissed s w u k t y x there here sort untold going high =
+    let v = u.standing in
+    let q = (part_there v w u.mixed t y x there here sort untold going).queue in
+    let met = is_met v w u.mixed t y x there here sort untold going in
+    let near : k.standing.near (32 * x.queue) ≡ true = k.piped.mixed.queues.queues.met.each y.endpoint (with_queue x)
+    (queue_is v w u.mixed t y x there here sort untold going) met in
+    let ends : k.heads.ends (32 * x.queue) ≡ asked_as x.desc = k.piped.named y.endpoint x here
+    (met_as v w u.mixed t y x there here sort untold going met) in
+    let eps : q.eps ≡ 2 =
+    ap (λ (z : Told). z.speed) (asked s w k y.endpoint (32 * x.queue) x q here refl near ends
+    (head_there v w u.mixed t y x there here sort untold going))
+    ∙ high_eps x.desc high in
+    let f = token_there v w u.mixed t y x there here sort untold going in
+    ap (λ (z : Token). z.missed) (token_read v w u.mixed t y x there here sort untold going)
+    ∙ ((u.left.parts (32 * x.queue)).elements q (32 * y.place) f.qtd
+    (part_there v w u.mixed t y x there here sort untold going).here f.here).met eps
+
+-- ---- the lines of one event
+
+missed_told : (get last : Bool) (t : Token) (what : What) → HasReason get last t what → what ≡ lines.Miss → t.missed ≡ true
+missed_told get last t _ (done idle on whole) is = absurd (cc)
+missed_told get last t _ (missed idle on bit) is = bit
+missed_told get last t _ (babbled idle on bit long) is = absurd (cc)
+missed_told get last t _ (failed idle on bit long out) is = absurd (cc)
+missed_told get last t _ (stalled idle on bit long some) is = absurd (cc)
+
+last_or : {A : Type 0} (xs : List A) (z : A) (i : ℕ) (v : A) → slice_get (xs ++ z ∷ []) i ≡ Some v → (slice_get xs i ≡ Some v) ⊎ (v ≡ z)
+last_or [] z zero v is = inr (sym (same_Some z v is))
+last_or [] z (suc i) v is = absurd (cc)
+last_or (x ∷ xs) z zero v is = inl is
+last_or (x ∷ xs) z (suc i) v is = last_or xs z i v is
+
+is_of : (d f : DriverContent) → ((e : ℕ) (y : Endpoint) → slice_get d.endpoints e ≡ Some y → IsNowIn f.endpoints e y)
+    → (line : Report) (P : EpDesc → Type 0)
+    → IsOf d line P → IsOf f line P
+is_of d f now line P k =
+    let z = now k.number k.endpoint k.here in
+    record {
+      number = k.number;
+      endpoint = z.endpoint;
+      here = z.here;
+      name = k.name ∙ ap (λ (x : EpDesc). x.name) (sym z.comes.desc);
+      so = subst P (sym z.comes.desc) k.so;
+    }
+
+abbrev IsBelow : EpDesc → Type 0
+IsBelow x = is_high x.speed ≡ false
+
+module _ (w : World) (reads : ReadsUnmissed w) where
+  token_below : (notes : List QtdNote) (line : Report) (bytes : List ℕ) → IsToldByToken (driver_parts w) notes line bytes
+      → line.what ≡ lines.Miss
+      → IsOf w.driver line IsBelow
+  token_below notes line bytes k is = record {
+    number = k.of.transfer.endpoint;
+    endpoint = k.of.endpoint;
+    here = k.of.here;
+    name = k.of.name;
+    so = by (is_high k.of.endpoint.desc.speed) refl;
+  }
+    where
+      by : (b : Bool) → is_high k.of.endpoint.desc.speed ≡ b → is_high k.of.endpoint.desc.speed ≡ false
+      by false slow = slow
+      by true high =
+          absurd (false≢true (sym (reads k.of.number k.of.transfer k.of.endpoint k.of.there k.of.here k.qtds k.of.untold k.of.going high)
+          ∙ missed_told _ _ (token_of w.memory k.of.transfer.place) line.what k.reason is))
+
+  reason_below : (notes : List QtdNote) (line : Report) (bytes : List ℕ) → Reason (driver_parts w) notes line bytes → line.what ≡ lines.Miss
+      → IsOf w.driver line IsBelow
+  reason_below notes line bytes (by_token k) is = token_below notes line bytes k is
+  reason_below notes line bytes (behind k) is = absurd (no_halt (sym k.what ∙ is))
+    where
+      no_halt : ◌≡◌ {A = What} (lines.Halt causes.Stall) lines.Miss → ⊥
+      no_halt e = cc
+  reason_below notes line bytes (by_slots k) is = absurd (no_iso _ (sym k.what ∙ is))
+    where
+      no_iso : (n : ℕ) → ◌≡◌ {A = What} (lines.Iso n) lines.Miss → ⊥
+      no_iso n e = cc
+  reason_below notes line bytes (by_cancel k) is = absurd (no_cancel (sym k.what ∙ is))
+    where
+      no_cancel : ◌≡◌ {A = What} lines.Cancel lines.Miss → ⊥
+      no_cancel e = cc
+
+  told_below : (notes : List QtdNote) (reports : List Report) (store : List ℕ) → AreTold (driver_parts w) notes reports store
+      → MissesAreBelow w.driver
+      → (i : ℕ) (line : Report) → slice_get reports i ≡ Some line → line.what ≡ lines.Miss → IsOf w.driver line IsBelow
+  told_below notes _ _ nothing old i line here is = old i line here is
+  told_below notes _ _ (one_more reports store bytes z told reason from long) old i line here is =
+      ⊎_elim (λ (was : slice_get reports i ≡ Some line). told_below notes reports store told old i line was is)
+      (λ (new : line ≡ z). subst (λ (v : Report). IsOf w.driver v IsBelow) (sym new)
+      (reason_below notes z bytes reason (ap (λ (v : Report). v.what) (sym new) ∙ is))) (last_or reports z i line here)
+
+  driver_below : MissesAreBelow w.driver → MissesAreBelow (driver_next w).driver
+  driver_below old i line here is =
+      is_of w.driver (driver_next w).driver
+      (is_now_in w.driver.endpoints (driver_next w).driver.endpoints (row_ends (driver_row (driver_parts w)) (driver_parts w))) line IsBelow
+      (told_below (driver_next w).driver.notes (driver_next w).driver.reports (driver_next w).driver.store (drivers_tell_for_reasons
+      (driver_parts w)) old i line here is)
+
+-- ---- a command
+
+accepted_below : (d f : DriverContent) (cmd : Cmd) → EndsThen d f cmd → MissesAreBelow d → MissesAreBelow f
+accepted_below d f cmd (one_endpoint_more x is_open ends kept newest tells) old i line here is =
+    is_of d f (λ e y at. record {
+      endpoint = y;
+      here = ap (λ (xs : List Endpoint). slice_get xs e) ends ∙ pushed d.endpoints x e y at;
+      comes = record { desc = refl; queue = refl; alive = λ some. some };
+    }) line IsBelow (old i line (ap (λ (rs : List Report). slice_get rs i) (sym tells.reports) ∙ here) is)
+accepted_below d f cmd (one_anew e y z at ends comes gone never tells) old i line here is =
+    is_of d f (λ j v there. subst (λ (xs : List Endpoint). IsNowIn xs j v) (sym ends) (now_anew d.endpoints e y z at comes j v there))
+    line IsBelow (old i line (ap (λ (rs : List Report). slice_get rs i) (sym tells.reports) ∙ here) is)
+
+refused_below : (w : World) (n : ℕ) (name : EpName) (why : OfferError) → MissesAreBelow w.driver
+    → MissesAreBelow (commanded_by w n name (Err why)).driver
+refused_below w n name why old i line here told =
+    let told_so : Report = record { name = name; what = lines.Refused n why; from = length w.driver.store; len = 0 } in
+    ⊎_elim (λ (was : slice_get w.driver.reports i ≡ Some line). again (old i line was told))
+    (λ (new : line ≡ told_so). absurd (no_refusal (sym (ap (λ (v : Report). v.what) new) ∙ told)))
+    (last_or w.driver.reports told_so i line here)
+  where
+    no_refusal : ◌≡◌ {A = What} (lines.Refused n why) lines.Miss → ⊥
+    no_refusal e = cc
+
+    again : IsOf w.driver line IsBelow → IsOf (commanded_by w n name (Err why)).driver line IsBelow
+    again k = record { number = k.number; endpoint = k.endpoint; here = k.here; name = k.name; so = k.so }
+
+command_by : (w : World) (n : ℕ) (cmd : Cmd) (name : EpName) (r : Result Offered OfferError) → offered w.driver w.memory cmd ≡ r
+    → MissesAreBelow w.driver
+    → MissesAreBelow (commanded_by w n name r).driver
+command_by w n cmd name (Ok o) is old = accepted_below w.driver o.driver cmd (ends_then w.driver w.memory o cmd
+    (reason_of w.driver w.memory cmd o is)) old
+command_by w n cmd name (Err why) is old = refused_below w n name why old
+
+-- ---- each moment
+
+pub texts_miss_below : TextsMissBelow
+texts_miss_below text s spelled k =
+    carrying {X = ℕ} (λ fixed w n. n) (λ w orders n. ReadsUnmissed w) (λ w n. MissesAreBelow w.driver) s 0
+    (record {
+      controller = λ w orders n reads old. old;
+      driver = λ w orders n reads old. driver_below w reads old;
+      command = λ w line cmd rest n reads old. command_by w line cmd (name_in cmd) (offered w.driver w.memory cmd) refl old;
+    })
+    (λ j. reads_unmissed s (moment s j).world (texts_miss_none text s spelled j) (texts_are_piped text s spelled j)) (λ i line here. absurd
+    (none_yet i line here)) k
+  where
+    none_yet : (i : ℕ) (line : Report) → slice_get [] i ≡ Some line → ⊥
+    none_yet zero line e = cc
+    none_yet (suc i) line e = cc

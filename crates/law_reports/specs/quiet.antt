@@ -1,0 +1,4 @@
+pub mod Errors
+pub mod Replies
+pub mod Laws
+pub mod Samples
