@@ -1,8 +1,8 @@
--- Where the endpoints that a script opens are high-speed bulk and control endpoints of devices, none a hub's own, at each moment of its run
--- the device acted at most once on each control request, and only on its setup bytes; of an endpoint that isn't cancelled the report tells
--- of its requests in their order: a request that is done was acted on exactly once, and the bytes told of it are those of its data; those
--- of one that halted begin its data; and `acted` is told as the number of requests that were acted on. After the run these are all its
--- requests (EHCI 1.0, 4.10; USB 2.0, 8.5.3).
+-- Where the endpoints that a script opens are high-speed bulk and control endpoints, at each moment of its run each device acted at most
+-- once on each control request, and only on its setup bytes; of an endpoint that isn't cancelled the report tells of its requests in their
+-- order: a request that is done was acted on exactly once, and the bytes told of it are those of its data; those of one that halted begin
+-- its data; and `acted` is told as the number of requests that were acted on. After the run these are all its requests. Of a hub's own
+-- control endpoint nothing is said: a hub answers by its own state, and not by lines of the script (EHCI 1.0, 4.10; USB 2.0, 8.5.3).
 --     opens command b            the unfinished command opens the endpoint with its queue head in block b
 --     is_opening d x             endpoint x is being opened: its queue head isn't in the ring yet
 --     setup_at d a               the number of the first request of the driver that isn't given back and whose first qTD stands at a
@@ -21,13 +21,14 @@
 --     AreOnce asks v d e         in each window of the endpoint's transfers the device acted at most once, and on nothing but the setup
 --                                bytes
 --     IsOpenControl d e x        endpoint e of the driver is x, a control endpoint that was opened
+--     IsOfDevice s k e x         .. at moment k, of a device that is no hub
 --     windows_then s k e         the windows of its transfers at moment k, each with its request and the acts of the device
 --     RequestsAreKept s k e x    in each of them the device acted at most once, and on nothing but the setup bytes of the request; the
 --                                lines tell of them, in their order: a request that is done was acted on exactly once, and the bytes of its
 --                                line are its data; where it halted, they begin its data; and the closing line tells how many were acted
 --                                on. Of an endpoint that was cancelled nothing is said of the lines.
---     KeepsRequests s            so it is at each moment; and at the end of the run the requests of each endpoint that isn't cancelled are
---                                right, and are all that the script has for it
+--     KeepsRequests s            so it is of each of them at each moment; and at the end of the run the requests of each that isn't
+--                                cancelled are right, and are all that the script has for it
 use Rattle.std.specs.List.{AllByRecursion}
 use Rattle.std.specs.Prelude.{◌≡◌, ℕ, zero, suc, ◌*◌, Bool, ◌==◌, true, ◌&&◌, not, false, List, [], position, ◌++◌, ◌∷◌, length, filter, slice_get, map, Option, Some, if◌then◌else◌, None, option_map}
 use Rattle.usb_base.specs.declared.commands.Cmd.{Cmd}
@@ -50,7 +51,7 @@ use Rattle.hc_core.specs.declared.controller.HcStep.TheVariants as steps
 use Rattle.bus_wire.specs.Bus.{Fixed, Wired, fixed_of}
 use Rattle.claims_report.specs.Acts.{IsOnce, acts_if, done_of}
 use Rattle.claims_report.specs.ControlSides.{Device}
-use Rattle.claims_report.specs.Controls.{control_of, is_at}
+use Rattle.claims_report.specs.Controls.{control_of, is_at, is_of_hub}
 use Rattle.claims_report.specs.Reports.{WholeReport, lines_of, acted}
 use Rattle.claims_report.specs.Requests.{data_of, Request, Window, has_acted, AreTold, AreRightRequests}
 use Rattle.bus_world.specs.Budgets.{moment}
@@ -229,7 +230,11 @@ pub record RequestsAreKept (s : Script) (k e : ℕ) (x : Endpoint) : Type 0 wher
   pub told : x.cancelled ≡ false → AreTold (data_of s x.desc.name) (report_at s k).store (windows_then s k e) (lines_of (report_at s k) x.desc.name)
   pub counted : acted (report_at s k) x.desc.name ≡ Some (length (filter has_acted (windows_then s k e)))
 
+pub record IsOfDevice (s : Script) (k e : ℕ) (x : Endpoint) : Type 0 where
+  pub opened : IsOpenControl (moment s k).world.driver e x
+  pub device : is_of_hub s x.desc.name.addr ≡ false
+
 pub record KeepsRequests (s : Script) : Type 0 where
-  pub throughout : (k e : ℕ) (x : Endpoint) → IsOpenControl (moment s k).world.driver e x → RequestsAreKept s k e x
-  pub at_the_end : (k e : ℕ) (x : Endpoint) → (moment s k).orders ≡ [] → IsOpenControl (moment s k).world.driver e x → x.cancelled ≡ false
+  pub throughout : (k e : ℕ) (x : Endpoint) → IsOfDevice s k e x → RequestsAreKept s k e x
+  pub at_the_end : (k e : ℕ) (x : Endpoint) → (moment s k).orders ≡ [] → IsOfDevice s k e x → x.cancelled ≡ false
       → AreRightRequests s (report_at s k) x.desc.name (windows_then s k e)

@@ -26,7 +26,7 @@ ghost use Rattle.claims_world.specs.Unfinished.{KeepsToWork};
 ghost use Rattle.claims_world.specs.Microframes.{MicroframesEnd};
 ghost use Rattle.claims_world.specs.Requests.{KeepsRequests};
 ghost use Rattle.app_forms.specs.Scripts.{OfEachScript};
-ghost use Rattle.claims_world.specs.Scripts.{WhereOfDevices};
+ghost use Rattle.claims_world.specs.Scripts.{WhereAsynchronous};
 ghost use Rattle.claims_world.specs.HighStreams.{KeepsAllHighStreams};
 ghost use Rattle.claims_world.specs.Ends.{EndsOnce};
 ghost use Rattle.claims_world.specs.Heard.{HearsThroughout};
@@ -127,7 +127,7 @@ use usb_base::{Sink, Source};
 /// Whatever the script opens, no line follows the one that tells the end of a bulk, interrupt or isochronous endpoint, and nothing of it is
 /// pending then, at each moment and after the run.
 ///
-/// Where the script opens high-speed bulk and control endpoints of devices only, none a hub's own, at each moment the device acted at most once on each
+/// Where the script opens high-speed bulk and control endpoints only, at each moment each device but a hub acted at most once on each
 /// control request, and only on its setup bytes; of an endpoint that isn't cancelled the report tells of its requests in their order: a
 /// request that is done was acted on exactly once, and the bytes told of it are those of its data; those of one that halted begin its
 /// data; and `acted` is told as the number of requests that were acted on. After the run these are all its requests.
@@ -182,7 +182,7 @@ pub fn ehci<S: Source, K: Sink>(
     ensures goes_on { OfEachScript KeepsToWork (map string_bytes words.now) (S.left source.old) }
     ensures streams { OfEachScript KeepsAllHighStreams (map string_bytes words.now) (S.left source.old) }
     ensures ends { OfEachScript EndsOnce (map string_bytes words.now) (S.left source.old) }
-    ensures requests { OfEachScript (WhereOfDevices KeepsRequests) (map string_bytes words.now) (S.left source.old) }
+    ensures requests { OfEachScript (WhereAsynchronous KeepsRequests) (map string_bytes words.now) (S.left source.old) }
     ensures answers { OfEachScript CommandsHaveCauses (map string_bytes words.now) (S.left source.old) }
     ensures hears { OfEachScript HearsThroughout (map string_bytes words.now) (S.left source.old) }
     ensures works { OfEachScript RestsThroughout (map string_bytes words.now) (S.left source.old) }

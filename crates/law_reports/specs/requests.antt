@@ -17,6 +17,7 @@ pub mod ReportAsking
 pub mod Right
 pub mod Accepted
 pub mod ReportSamples
+pub mod Footing
 pub mod Asking
 pub mod Given
 pub mod WorldLaws

@@ -29,6 +29,8 @@ pub mod Right
 pub mod Accepted
 pub mod ReportSampled
 pub mod Has
+pub mod Footing
+pub mod Relinking
 pub mod Names
 pub mod Controller
 pub mod Still
@@ -64,7 +66,9 @@ pub mod Mending
 pub mod Clearing
 pub mod Unlinking
 pub mod OpenLending
+pub mod NewHeads
 pub mod OpenLinking
+pub mod Linking
 pub mod Waits
 pub mod Moves
 pub mod Releasing

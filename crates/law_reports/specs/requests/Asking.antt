@@ -1,10 +1,10 @@
--- A world of bulk and control endpoints with the requests of its control endpoints (EHCI 1.0, 3.5 and 4.10; USB 2.0, 8.5.3): the queue of each one that the walk
--- may meet, what the run recorded of its requests, what the lines tell of them, and what its device counts.
---     Sides                      what a script has for its control endpoints: the devices' sides before they are opened, each endpoint with its replies, and the
---                                bytes of the data of each request
+-- The requests of control endpoints, of all of a world or of some (EHCI 1.0, 3.5 and 4.10; USB 2.0, 8.5.3): the queue of each one of these that the walk may meet,
+-- what the run recorded of its requests, what the lines tell of them, and what its device counts.
+--     Sides                      what a script has for these control endpoints: which they are, the devices' sides before they are opened, each endpoint with its
+--                                replies, and the bytes of the data of each request
 --     IsGiven g x                the device of a control endpoint is so, and has had no request
 --     Asking                     where the queue of each queue head stands, and which transfers its requests are
---     has_left d e               a control endpoint that the walk can't meet any more
+--     has_left g d e             one of them that the walk can't meet any more
 --     is_next_of d e             the newest transfer is of endpoint e, and is being published
 --     HasCourse g d e x c a      the queue and the transfers of endpoint e, which is x: the newest transfer, until it is published, isn't in the queue
 --     IsHeldRequest .., IsPublishing ..
@@ -15,8 +15,10 @@
 --                                those behind it are closed, and no line tells of them
 --     IsUnopened d addr num      no endpoint of the driver has this address and number, but one that is being opened
 --     IsUnheard d name           .. or has this name
+--     AsksIn ..                  so it is of a driver over memory and a bus
+--     HasAsks ..                 .. for some queues
 --     IsAskingWorld ..           the world is so
---     HasAskingWorld ..          .. for some queue heads, structures and queues
+--     HasAskingWorld ..          .. a world of bulk and control endpoints, for some queue heads, structures and queues
 use Rattle.std.specs.Prelude.{◌≡◌, ℕ, zero, suc, ◌-◌, ◌*◌, ◌≤◌, ◌==◌, ◌&&◌, not, Bool, true, false, List, [], ◌∷◌, ◌++◌, length, slice_get, Option, Some, None, if◌then◌else◌}
 use Rattle.usb_base.specs.declared.endpoints.EndCause.{EndCause}
 use Rattle.usb_base.specs.declared.endpoints.EpDesc.{EpDesc}
@@ -25,7 +27,7 @@ use Rattle.word_mem.specs.Memory.{Mem}
 use Rattle.qh_qtd.specs.declared.qtd.Qtd.{Qtd}
 use Rattle.qh_qtd.specs.Qtd.{qtd_words, IsQtdInRange}
 use Rattle.dev_control.specs.Stages.{Stages}
-use Rattle.bus_wire.specs.Bus.{Fixed}
+use Rattle.bus_wire.specs.Bus.{Fixed, Wired}
 use Rattle.drv_table.specs.declared.content.Command.{Command}
 use Rattle.drv_table.specs.declared.content.Command.TheVariants as unfinished
 use Rattle.drv_table.specs.declared.content.Endpoint.{Endpoint as DriverEndpoint}
@@ -54,7 +56,7 @@ use Rattle.claims_report.specs.Controls.{control_of}
 use Rattle.bus_world.specs.World.{World}
 use Rattle.law_world.specs.steps.Streaming.{Standing}
 use Rattle.claims_world.specs.Requests.{wired, Windows, numbers_of, is_opening}
-use Rattle.law_reports.specs.requests.Courses.{Course, has_queue, is_asking, queue_in, tail_in, CoursesStand}
+use Rattle.law_reports.specs.requests.Courses.{Course, has_queue, is_asking, queue_in, tail_in, have_queues, CoursesStand}
 use Rattle.law_reports.specs.requests.Coming.{IsComing}
 use Rattle.law_reports.specs.requests.Records.{Numbers, AreRecords}
 use Rattle.law_reports.specs.requests.Counts.{counted_all}
@@ -66,6 +68,9 @@ use Rattle.law_reports.specs.requests.Missed.{MissNone}
 -- ---- what the script has for its control endpoints
 
 pub record Sides : Type 0 where
+  -- which endpoints these are: control endpoints
+  pub asks : EpDesc → Bool
+  pub controls : (x : EpDesc) → asks x ≡ true → is_control x.kind ≡ true
   pub first : ℕ → ℕ → Option Device
   pub endpoint : EpDesc → Endpoint
   pub whole : EpName → Request → List ℕ
@@ -89,12 +94,12 @@ pub record Asking : Type 0 where
   pub courses : ℕ → Course
   pub numbers : ℕ → Numbers
 
-abbrev pub left_with : DriverContent → ℕ → Option DriverEndpoint → Bool
-left_with d e None = false
-left_with d e (Some x) = is_control x.desc.kind && not (may_meet d e x)
+abbrev pub left_with : Sides → DriverContent → ℕ → Option DriverEndpoint → Bool
+left_with g d e None = false
+left_with g d e (Some x) = g.asks x.desc && not (may_meet d e x)
 
-abbrev pub has_left : DriverContent → ℕ → Bool
-has_left d e = left_with d e (slice_get d.endpoints e)
+abbrev pub has_left : Sides → DriverContent → ℕ → Bool
+has_left g d e = left_with g d e (slice_get d.endpoints e)
 
 abbrev pub is_publishing : Option Command → Option Transfer → ℕ → Bool
 is_publishing (Some (unfinished.Publish b words)) (Some y) e = y.endpoint == e
@@ -175,10 +180,13 @@ pub record HasTelling (d : DriverContent) (asks : ℕ → Request) (e : ℕ) (x 
 -- ---- what its device counts
 
 -- one for each act in the windows of its transfers, up to the last value of 32 bits
-pub record IsCounted (fixed : Fixed) (w : World) (v : Windows) (e : ℕ) (x : DriverEndpoint) : Type 0 where
+pub record IsCountedOn (wire : Wired) (d : DriverContent) (v : Windows) (e : ℕ) (x : DriverEndpoint) : Type 0 where
   pub device : Device
-  pub is : control_of (wired fixed w) x.desc.name.addr x.desc.name.num ≡ Some device
-  pub acted : device.stages.acted ≡ counted_all v (numbers_of w.driver e) 0
+  pub is : control_of wire x.desc.name.addr x.desc.name.num ≡ Some device
+  pub acted : device.stages.acted ≡ counted_all v (numbers_of d e) 0
+
+abbrev pub IsCounted : Fixed → World → Windows → ℕ → DriverEndpoint → Type 0
+IsCounted fixed w v e x = IsCountedOn (wired fixed w) w.driver v e x
 
 -- ---- all of them
 
@@ -188,32 +196,47 @@ IsUnopened d addr num = (e : ℕ) (z : DriverEndpoint) → slice_get d.endpoints
 abbrev pub IsUnheard : DriverContent → EpName → Type 0
 IsUnheard d name = (e : ℕ) (z : DriverEndpoint) → slice_get d.endpoints e ≡ Some z → z.desc.name ≡ name → is_opening d z ≡ true
 
-pub record IsControlOf (d : DriverContent) (e : ℕ) (x : DriverEndpoint) : Type 0 where
+pub record IsControlOf (g : Sides) (d : DriverContent) (e : ℕ) (x : DriverEndpoint) : Type 0 where
   pub here : slice_get d.endpoints e ≡ Some x
-  pub control : is_control x.desc.kind ≡ true
+  pub control : g.asks x.desc ≡ true
 
-pub record IsMetControl (d : DriverContent) (e : ℕ) (x : DriverEndpoint) : Type 0 where
-  pub is : IsControlOf d e x
+pub record IsMetControl (g : Sides) (d : DriverContent) (e : ℕ) (x : DriverEndpoint) : Type 0 where
+  pub is : IsControlOf g d e x
   pub met : IsMet d e x
 
-pub record IsAskingWorld (g : Sides) (fixed : Fixed) (member : ℕ → Bool) (s : Standing) (a : Asking) (v : Windows) (asks : ℕ → Request) (w : World) : Type 0 where
-  pub stand : CoursesStand control_of member a.courses s.parts s.hand (wired fixed w)
-  pub records : AreRecords w.driver asks a.courses a.numbers (has_left w.driver) v
-  pub each : (e : ℕ) (x : DriverEndpoint) → IsMetControl w.driver e x → HasCourse g w.driver e x (a.courses (32 * x.queue)) (a.numbers (32 * x.queue))
-  pub publishing : (e : ℕ) (x : DriverEndpoint) → IsMetControl w.driver e x → is_next_of w.driver e ≡ true
-      → IsPublishing w.driver w.memory x (s.parts (32 * x.queue)) (a.courses (32 * x.queue)) (a.numbers (32 * x.queue))
-  pub read : (e t : ℕ) (x : DriverEndpoint) (y : Transfer) → IsMetControl w.driver e x → told_end x ≡ None → x.next ≡ Some t → slice_get w.driver.transfers t ≡ Some y
-      → IsReadTo s.hand s.parts (32 * x.queue) (note_at w.driver.notes) y ((a.numbers (32 * x.queue)).requests.requests 0)
-  pub telling : (e : ℕ) (x : DriverEndpoint) → IsMetControl w.driver e x → x.cancelled ≡ false → HasTelling w.driver asks e x g.whole v (a.numbers (32 * x.queue))
+-- over what a driver has, and what its memory and a bus have
+pub record AsksIn (g : Sides) (member : ℕ → Bool) (parts : StructureSets) (hand : Hand) (a : Asking) (v : Windows) (asks : ℕ → Request) (d : DriverContent) (m : Mem) (wire : Wired) : Type 0 where
+  pub stand : CoursesStand control_of member a.courses parts hand wire
+  pub records : AreRecords d asks a.courses a.numbers (has_left g d) v
+  pub each : (e : ℕ) (x : DriverEndpoint) → IsMetControl g d e x → HasCourse g d e x (a.courses (32 * x.queue)) (a.numbers (32 * x.queue))
+  -- the endpoint of a queue is one of these
+  pub asked : (n : ℕ) (x : DriverEndpoint) → have_queues a.courses n ≡ true → slice_get d.endpoints (a.numbers n).endpoint ≡ Some x
+      → g.asks x.desc ≡ true
+  pub publishing : (e : ℕ) (x : DriverEndpoint) → IsMetControl g d e x → is_next_of d e ≡ true
+      → IsPublishing d m x (parts (32 * x.queue)) (a.courses (32 * x.queue)) (a.numbers (32 * x.queue))
+  pub read : (e t : ℕ) (x : DriverEndpoint) (y : Transfer) → IsMetControl g d e x → told_end x ≡ None → x.next ≡ Some t
+      → slice_get d.transfers t ≡ Some y
+      → IsReadTo hand parts (32 * x.queue) (note_at d.notes) y ((a.numbers (32 * x.queue)).requests.requests 0)
+  pub telling : (e : ℕ) (x : DriverEndpoint) → IsMetControl g d e x → x.cancelled ≡ false
+      → HasTelling d asks e x g.whole v (a.numbers (32 * x.queue))
   -- of those that are being opened, too
-  pub given : (e : ℕ) (x : DriverEndpoint) → IsControlOf w.driver e x → IsGiven g x.desc
+  pub given : (e : ℕ) (x : DriverEndpoint) → IsControlOf g d e x → IsGiven g x.desc
   -- .. and of those that were given back
-  pub counts : (e : ℕ) (x : DriverEndpoint) → IsControlOf w.driver e x → is_opening w.driver x ≡ false → IsCounted fixed w v e x
-  pub unopened : (addr num : ℕ) (c : Device) → 1 ≤ addr → IsUnopened w.driver addr num → g.first addr num ≡ Some c → control_of (wired fixed w) addr num ≡ Some c
+  pub counts : (e : ℕ) (x : DriverEndpoint) → IsControlOf g d e x → is_opening d x ≡ false → IsCountedOn wire d v e x
+  pub unopened : (addr num : ℕ) (c : Device) → 1 ≤ addr → IsUnopened d addr num → g.first addr num ≡ Some c
+      → control_of wire addr num ≡ Some c
   -- no line tells of an endpoint that wasn't opened, or is being opened
-  pub untold : (name : EpName) → IsUnheard w.driver name → lines_in name w.driver.reports ≡ []
-  -- no token tells a missed microframe: that bit is of split transactions (EHCI 1.0, 3.5.3)
-  pub unmissed : MissNone w.driver s.parts s.hand
+  pub untold : (name : EpName) → IsUnheard d name → lines_in name d.reports ≡ []
+  -- no token of these queues tells a missed microframe: that bit is of split transactions (EHCI 1.0, 3.5.3)
+  pub unmissed : MissNone (have_queues a.courses) d parts hand
+
+-- .. for some queues
+pub record HasAsks (g : Sides) (member : ℕ → Bool) (parts : StructureSets) (hand : Hand) (v : Windows) (asks : ℕ → Request) (d : DriverContent) (m : Mem) (wire : Wired) : Type 0 where
+  pub asking : Asking
+  pub world : AsksIn g member parts hand asking v asks d m wire
+
+abbrev pub IsAskingWorld : Sides → Fixed → (ℕ → Bool) → Standing → Asking → Windows → (ℕ → Request) → World → Type 0
+IsAskingWorld g fixed member s a v asks w = AsksIn g member s.parts s.hand a v asks w.driver w.memory (wired fixed w)
 
 pub record HasAskingWorld (g : Sides) (fixed : Fixed) (takes : ℕ → ℕ → Bool) (stream : ℕ → ℕ → Bool) (packets : ℕ → ℕ → List (List ℕ)) (v : Windows) (asks : ℕ → Request) (w : World) : Type 0 where
   pub member : ℕ → Bool

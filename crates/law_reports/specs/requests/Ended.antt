@@ -7,7 +7,6 @@
 --     HaltEnds                   .. or it halted: no request of the queue is asked any more, and the bytes that are told begin its data; at a STALL those behind it end with it
 use Rattle.std.specs.Prelude.{◌≡◌, ◌≢◌, ℕ, ◌*◌, ◌<◌, Bool, true, false}
 use Rattle.usb_base.specs.declared.endpoints.EndCause.{EndCause}
-use Rattle.usb_base.specs.declared.packets.EpKind.TheVariants as kinds
 use Rattle.usb_base.specs.declared.reports.What.TheVariants.{Done, Halt}
 use Rattle.bus_wire.specs.Bus.{Fixed}
 use Rattle.drv_table.specs.declared.content.Endpoint.{Endpoint}
@@ -27,7 +26,7 @@ use Rattle.claims_world.specs.Requests.{wired, Windows}
 use Rattle.law_reports.specs.requests.Courses.{Course, Asks, has_queue, is_asking, queue_in, tail_in, with_course, CoursesStand}
 use Rattle.law_reports.specs.requests.Records.{Numbers, AreRecords}
 use Rattle.law_reports.specs.requests.TransferChanges.{with_numbers, first_closed, all_closed}
-use Rattle.law_world.specs.streams.Whole.{IsWhole}
+use Rattle.law_reports.specs.requests.Footing.{IsFooting}
 use Rattle.law_reports.specs.requests.Asking.{Sides, Asking, has_left, HasTelling, IsAskingWorld}
 use Rattle.law_reports.specs.requests.Reading.{AreSilent, IsAtRequest}
 
@@ -42,8 +41,9 @@ pub record ReadsFirst (member : ℕ → Bool) (s : Standing) (a : Asking) (w : W
   pub at : IsAtRequest member (driver_parts w) e t found due s.parts s.hand (queue.requests 0) (queue.places 0)
 
 abbrev pub HarvestReadsFirst : Type 0
-HarvestReadsFirst = (g : Sides) (fixed : Fixed) (takes : ℕ → ℕ → Bool) (member : ℕ → Bool) (x : Streams) (s : Standing) (a : Asking) (v : Windows) (asks : ℕ → Request) (w : World) (e t : ℕ) (found : Found)
-    → (due : IsHarvestDue (driver_parts w) e t found) → due.endpoint.desc.kind ≡ kinds.Control → found ≢ founds.Active → IsWhole fixed takes member x s w → AreSilent w.driver
+HarvestReadsFirst = (g : Sides) (fixed : Fixed) (member : ℕ → Bool) (x : Streams) (s : Standing) (a : Asking) (v : Windows) (asks : ℕ → Request) (w : World) (e t : ℕ) (found : Found)
+    → (due : IsHarvestDue (driver_parts w) e t found) → g.asks due.endpoint.desc ≡ true → found ≢ founds.Active → IsFooting member x s w
+    → AreSilent w.driver
     → IsAskingWorld g fixed member s a v asks w → ReadsFirst member s a w e t found due
 
 abbrev pub ended_driver : World → ℕ → ℕ → Found → DriverContent
@@ -58,19 +58,22 @@ pub record RequestEnds (g : Sides) (fixed : Fixed) (member : ℕ → Bool) (s : 
   pub count : numbers.requests.count ≡ (queue_in course).count
   pub rests : numbers.requests.count ≡ 0 → is_asking course ≡ false
   pub stand : CoursesStand control_of member (with_course a.courses (32 * x.queue) course) s.parts s.hand (wired fixed w)
-  pub records : AreRecords new asks (with_course a.courses (32 * x.queue) course) (with_numbers a.numbers (32 * x.queue) numbers) (has_left w.driver) v
+  pub records : AreRecords new asks (with_course a.courses (32 * x.queue) course) (with_numbers a.numbers (32 * x.queue) numbers) (has_left g w.driver) v
   pub telling : HasTelling new asks e x g.whole v numbers
 
 abbrev pub DoneEnds : Type 0
-DoneEnds = (g : Sides) (fixed : Fixed) (takes : ℕ → ℕ → Bool) (member : ℕ → Bool) (x : Streams) (s : Standing) (a : Asking) (v : Windows) (asks : ℕ → Request) (w : World) (e t n : ℕ)
-    → (due : IsHarvestDue (driver_parts w) e t (founds.Ended n Done)) → due.endpoint.desc.kind ≡ kinds.Control → IsWhole fixed takes member x s w → AreSilent w.driver
-    → IsAskingWorld g fixed member s a v asks w → RequestEnds g fixed member s a v asks w (ended_driver w e t (founds.Ended n Done)) e due.endpoint
+DoneEnds = (g : Sides) (fixed : Fixed) (member : ℕ → Bool) (x : Streams) (s : Standing) (a : Asking) (v : Windows) (asks : ℕ → Request) (w : World) (e t n : ℕ)
+    → (due : IsHarvestDue (driver_parts w) e t (founds.Ended n Done)) → g.asks due.endpoint.desc ≡ true → IsFooting member x s w
+    → AreSilent w.driver
+    → IsAskingWorld g fixed member s a v asks w
+    → RequestEnds g fixed member s a v asks w (ended_driver w e t (founds.Ended n Done)) e due.endpoint
     (first_closed (a.numbers (32 * due.endpoint.queue)))
 
 -- the endpoint ends, but at a STALL
 abbrev pub HaltEnds : Type 0
-HaltEnds = (g : Sides) (fixed : Fixed) (takes : ℕ → ℕ → Bool) (member : ℕ → Bool) (x : Streams) (s : Standing) (a : Asking) (v : Windows) (asks : ℕ → Request) (w : World) (e t n : ℕ) (cause : EndCause)
-    → (due : IsHarvestDue (driver_parts w) e t (founds.Ended n (Halt cause))) → due.endpoint.desc.kind ≡ kinds.Control → IsWhole fixed takes member x s w → AreSilent w.driver
+HaltEnds = (g : Sides) (fixed : Fixed) (member : ℕ → Bool) (x : Streams) (s : Standing) (a : Asking) (v : Windows) (asks : ℕ → Request) (w : World) (e t n : ℕ) (cause : EndCause)
+    → (due : IsHarvestDue (driver_parts w) e t (founds.Ended n (Halt cause))) → g.asks due.endpoint.desc ≡ true → IsFooting member x s w
+    → AreSilent w.driver
     → IsAskingWorld g fixed member s a v asks w
     → RequestEnds g fixed member s a v asks w (ended_driver w e t (founds.Ended n (Halt cause))) e (record due.endpoint { ended = end_of due.endpoint.desc.kind (Halt cause) })
     (all_closed (a.numbers (32 * due.endpoint.queue)))

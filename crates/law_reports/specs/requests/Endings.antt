@@ -12,7 +12,7 @@ use Rattle.drv_table.specs.declared.content.Endpoint.{Endpoint}
 use Rattle.drv_table.specs.declared.rows.DriverRow.TheVariants as rows
 use Rattle.drv_table.specs.declared.rows.Found.TheVariants as founds
 use Rattle.drv_table.specs.Rows.{driver_row}
-use Rattle.drv_table.specs.Words.{is_control, head_block, opening_head}
+use Rattle.drv_table.specs.Words.{head_block, opening_head}
 use Rattle.claims_report.specs.Requests.{Request}
 use Rattle.law_ring.specs.Told.{endpoint_of}
 use Rattle.bus_world.specs.World.{World, driver_parts, driver_next}
@@ -24,15 +24,21 @@ use Rattle.law_reports.specs.requests.Reading.{AreSilent}
 
 abbrev pub EndedBesideKeepsAsking : Type 0
 EndedBesideKeepsAsking = (g : Sides) (fixed : Fixed) (takes : ℕ → ℕ → Bool) (member : ℕ → Bool) (x : Streams) (s : Standing) (a : Asking) (v : Windows) (asks : ℕ → Request) (w : World) (e t n : ℕ) (what : What)
-    → driver_row (driver_parts w) ≡ rows.Harvest e t (founds.Ended n what) → ((z : Endpoint) → slice_get w.driver.endpoints e ≡ Some z → is_control z.desc.kind ≡ false)
-    → x.endpoint (32 * head_block) ≡ endpoint_of opening_head → IsWhole fixed takes member x s w → IsAskingWorld g fixed member s a v asks w → HasAskingWorld g fixed takes x.stream x.packets v asks (driver_next w)
+    → driver_row (driver_parts w) ≡ rows.Harvest e t (founds.Ended n what)
+    → ((z : Endpoint) → slice_get w.driver.endpoints e ≡ Some z → g.asks z.desc ≡ false)
+    → x.endpoint (32 * head_block) ≡ endpoint_of opening_head → IsWhole fixed takes member x s w → IsAskingWorld g fixed member s a v asks w
+    → HasAskingWorld g fixed takes x.stream x.packets v asks (driver_next w)
 
 abbrev pub DoneKeepsAsking : Type 0
 DoneKeepsAsking = (g : Sides) (fixed : Fixed) (takes : ℕ → ℕ → Bool) (member : ℕ → Bool) (x : Streams) (s : Standing) (a : Asking) (v : Windows) (asks : ℕ → Request) (w : World) (e t n : ℕ) (z : Endpoint)
-    → driver_row (driver_parts w) ≡ rows.Harvest e t (founds.Ended n Done) → IsControlOf w.driver e z → x.endpoint (32 * head_block) ≡ endpoint_of opening_head → IsWhole fixed takes member x s w
-    → AreSilent w.driver → IsAskingWorld g fixed member s a v asks w → HasAskingWorld g fixed takes x.stream x.packets v asks (driver_next w)
+    → driver_row (driver_parts w) ≡ rows.Harvest e t (founds.Ended n Done) → IsControlOf g w.driver e z
+    → x.endpoint (32 * head_block) ≡ endpoint_of opening_head → IsWhole fixed takes member x s w
+    → AreSilent w.driver → IsAskingWorld g fixed member s a v asks w
+    → HasAskingWorld g fixed takes x.stream x.packets v asks (driver_next w)
 
 abbrev pub HaltKeepsAsking : Type 0
 HaltKeepsAsking = (g : Sides) (fixed : Fixed) (takes : ℕ → ℕ → Bool) (member : ℕ → Bool) (x : Streams) (s : Standing) (a : Asking) (v : Windows) (asks : ℕ → Request) (w : World) (e t n : ℕ) (cause : EndCause) (z : Endpoint)
-    → driver_row (driver_parts w) ≡ rows.Harvest e t (founds.Ended n (Halt cause)) → IsControlOf w.driver e z → x.endpoint (32 * head_block) ≡ endpoint_of opening_head → IsWhole fixed takes member x s w
-    → AreSilent w.driver → IsAskingWorld g fixed member s a v asks w → HasAskingWorld g fixed takes x.stream x.packets v asks (driver_next w)
+    → driver_row (driver_parts w) ≡ rows.Harvest e t (founds.Ended n (Halt cause)) → IsControlOf g w.driver e z
+    → x.endpoint (32 * head_block) ≡ endpoint_of opening_head → IsWhole fixed takes member x s w
+    → AreSilent w.driver → IsAskingWorld g fixed member s a v asks w
+    → HasAskingWorld g fixed takes x.stream x.packets v asks (driver_next w)

@@ -3,8 +3,8 @@
 use Rattle.std.specs.Prelude.{ℕ, List}
 use Rattle.script_types.specs.declared.scripts.Script.{Script}
 use Rattle.script_text.specs.Faults.{Spells}
-use Rattle.claims_world.specs.Scripts.{AsynchronousOfDevices}
+use Rattle.claims_driver.specs.Scripts.{AsynchronousOnly}
 use Rattle.claims_world.specs.Requests.{KeepsRequests}
 
 abbrev pub TextsKeepRequests : Type 0
-TextsKeepRequests = (text : List ℕ) (s : Script) → Spells text s → AsynchronousOfDevices s → KeepsRequests s
+TextsKeepRequests = (text : List ℕ) (s : Script) → Spells text s → AsynchronousOnly s → KeepsRequests s

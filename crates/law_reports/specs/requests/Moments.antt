@@ -1,8 +1,9 @@
 -- Each moment of the run of a script of high-speed bulk and control endpoints, with the requests of its control endpoints (EHCI 1.0, 4.8 to 4.10; USB 2.0, 8.5.3).
---     IsAskingScript s         the endpoints that the script opens are high-speed bulk and control ones, its control endpoints have their devices, and its requests are whole
+--     IsAskingScript s         the endpoints that the script opens are high-speed bulk and control ones, its control endpoints but those of hubs have their devices, and
+--                              its requests are whole
 --     IsAskingThroughout s     the world is whole then, with its requests and what is recorded of them
 --     ScriptsStayAsking        the law
---     TextsAsk                 each script is so that a text spells and that opens endpoints of devices, high-speed bulk and control ones
+--     TextsAsk                 each script is so that a text spells and that opens high-speed bulk and control endpoints
 use Rattle.std.specs.Prelude.{ℕ, List}
 use Rattle.std.specs.List.{AllByRecursion}
 use Rattle.script_types.specs.declared.scripts.Script.{Script}
@@ -15,7 +16,7 @@ use Rattle.law_world.specs.streams.Feeding.{streams_of}
 use Rattle.law_world.specs.streams.Moments.{IsAsynchronousScript}
 use Rattle.law_reports.specs.requests.Asking.{HasAskingWorld}
 use Rattle.law_reports.specs.requests.Given.{sides_of, GivesLine}
-use Rattle.claims_world.specs.Scripts.{AsynchronousOfDevices}
+use Rattle.claims_driver.specs.Scripts.{AsynchronousOnly}
 
 pub record IsAskingScript (s : Script) : Type 0 where
   pub asynchronous : IsAsynchronousScript s
@@ -28,4 +29,4 @@ abbrev pub ScriptsStayAsking : Type 0
 ScriptsStayAsking = (s : Script) → IsAskingScript s → IsAskingThroughout s
 
 abbrev pub TextsAsk : Type 0
-TextsAsk = (text : List ℕ) (s : Script) → Spells text s → AsynchronousOfDevices s → IsAskingScript s
+TextsAsk = (text : List ℕ) (s : Script) → Spells text s → AsynchronousOnly s → IsAskingScript s

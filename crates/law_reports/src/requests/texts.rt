@@ -1,4 +1,9 @@
 //! Scripts of bulk and control endpoints.
+ghost use Rattle.std.specs.Prelude.{◌≡◌, true, false};
+ghost use Rattle.script_world.specs.Draft.{hub_desc};
+ghost use Rattle.claims_driver.specs.Scripts.{AsynchronousOnly};
+ghost use Rattle.law_devices.specs.declared_controls.Samples.{zero, beside_bulk};
+ghost use Rattle.law_reports.specs.requests.Given.{is_of_device};
 ghost use Rattle.law_reports.specs.requests.Moments.{TextsAsk, ScriptsStayAsking};
 ghost use Rattle.law_reports.specs.requests.Kept.{TextsKeepRequests};
 
@@ -12,8 +17,16 @@ pub fn scripts_stay_asking()
     ensures { ScriptsStayAsking }
 {}
 
-/// Of each text that opens high-speed bulk and control endpoints of devices: in the window of each control request the device acts at most once, and on nothing but its
+/// Of each text that opens high-speed bulk and control endpoints: in the window of each control request a device that is no hub acts at most once, and on nothing but its
 /// setup bytes. A request that is reported done was acted on exactly once, and the bytes that are told are its data; at the end all that the text asks for is told.
 pub fn texts_keep_requests()
     ensures { TextsKeepRequests }
+{}
+
+/// A script that opens a device's control endpoint, a bulk one and a hub's own is one of these: of the requests of the device all this is
+/// said, and not of the hub's.
+pub fn a_hub_beside_a_device()
+    ensures only { AsynchronousOnly beside_bulk }
+    ensures of_device { is_of_device beside_bulk zero ≡ true }
+    ensures of_hub { is_of_device beside_bulk (hub_desc 4) ≡ false }
 {}

@@ -11,14 +11,12 @@ use Rattle.word_mem.specs.Memory.{Mem}
 use Rattle.mem_runs.specs.Book.{Holding}
 use Rattle.bus_wire.specs.Bus.{Wired}
 use Rattle.drv_table.specs.declared.content.Command.{Command}
-use Rattle.drv_table.specs.declared.content.Command.TheVariants as unfinished
 use Rattle.drv_table.specs.declared.content.Endpoint.{Endpoint}
 use Rattle.drv_table.specs.declared.content.QtdNote.{QtdNote}
 use Rattle.drv_table.specs.declared.content.Transfer.{Transfer}
 use Rattle.drv_table.specs.DriverContent.{DriverContent}
 use Rattle.drv_table.specs.Harvests.{note_at}
 use Rattle.drv_table.specs.Offers.{Asked, first_of, stage_words, new_transfer, with_queued, accepted_transfer}
-use Rattle.drv_table.specs.Words.{is_control}
 use Rattle.claims_driver.specs.Owners.{note_in}
 use Rattle.law_driver.specs.endpoint_lives.Lives.{told_end}
 use Rattle.law_driver.specs.chained_transfers.Turns.{IsAtPlace, AreAtPlaces}
@@ -37,12 +35,13 @@ use Rattle.law_reports.specs.requests.Records.{Numbers, AreRecords}
 use Rattle.law_reports.specs.requests.Telling.{AddsTransfer}
 use Rattle.law_reports.proofs.lemmas.requests.Telling.{other_accepted_keeps_telling}
 use Rattle.law_queues.specs.standing_fronts.Tails.{tail_block}
-use Rattle.law_reports.specs.requests.Asking.{Sides, IsGiven, Asking, has_left, is_publishing, is_next_of, HasCourse, IsPublishing, DataIsRead, IsReadTo, HasTelling, IsControlOf, IsMetControl}
-use Rattle.law_reports.proofs.lemmas.requests.Inside.{AsksIn, IsCountedOn}
+use Rattle.law_reports.specs.requests.Asking.{Sides, IsGiven, Asking, has_left, is_publishing, is_next_of, HasCourse, IsPublishing, DataIsRead, IsReadTo, HasTelling, IsControlOf, IsMetControl, IsCountedOn, AsksIn}
 use Rattle.law_reports.proofs.lemmas.requests.Noting.{NotesStay}
 use Rattle.law_reports.proofs.lemmas.requests.Storing.{next_first}
+use Rattle.drv_table.specs.declared.content.Command.TheVariants as unfinished
 
-module _ (sides : Sides) (member : ℕ → Bool) (parts : StructureSets) (hand : Hand) (a : Asking) (v : Windows) (asks : ℕ → Request) (d : DriverContent) (m : Mem) (wire : Wired) (world : AsksIn sides member parts hand a v asks d m wire)
+module _ (sides : Sides) (member : ℕ → Bool) (parts : StructureSets) (hand : Hand) (a : Asking) (v : Windows) (asks : ℕ → Request)
+    (d : DriverContent) (m : Mem) (wire : Wired) (world : AsksIn sides member parts hand a v asks d m wire)
     (number : ℕ) (x : Endpoint) (q : Asked) (h : Holding) (dummy : ℕ) (notes : List QtdNote) (idle : d.command ≡ None) (here : slice_get d.endpoints number ≡ Some x) (places : AreAtPlaces (note_in d.notes) d.transfers)
     (noted : NotesStay d x.dummy (length q.stages) notes) (later : ℕ → Numbers) (now : ℕ → Request) (asked : (t : ℕ) → t < length d.transfers → now t ≡ asks t) where
   abbrev new : Transfer
@@ -57,14 +56,17 @@ module _ (sides : Sides) (member : ℕ → Bool) (parts : StructureSets) (hand :
   abbrev words : List ℕ
   words = stage_words notes (first_of q.stages) x.dummy dummy (nat_eq (length q.stages) 1)
 
-  which : (i : ℕ) (u : Endpoint) → slice_get (accepted_transfer d number x q h dummy notes).driver.endpoints i ≡ Some u → ((i ≡ number) × (u ≡ with_queued x dummy (length d.transfers))) ⊎ ((i ≢ number) × (slice_get d.endpoints i ≡ Some u))
+  which : (i : ℕ) (u : Endpoint) → slice_get (accepted_transfer d number x q h dummy notes).driver.endpoints i ≡ Some u
+      → ((i ≡ number) × (u ≡ with_queued x dummy (length d.transfers))) ⊎ ((i ≢ number) × (slice_get d.endpoints i ≡ Some u))
   which i u there = set_which d.endpoints number i x end u here there
 
-  control_before : (i : ℕ) (u : Endpoint) → IsControlOf (accepted_transfer d number x q h dummy notes).driver i u → i ≢ number → IsControlOf d i u
+  control_before : (i : ℕ) (u : Endpoint) → IsControlOf sides (accepted_transfer d number x q h dummy notes).driver i u → i ≢ number
+      → IsControlOf sides d i u
   control_before i u is differs =
-      ⊎_elim {C = IsControlOf d i u} (λ (own : (i ≡ number) × (u ≡ end)). absurd (differs own.0)) (λ (other : (i ≢ number) × (slice_get d.endpoints i ≡ Some u)). record { here = other.1; control = is.control }) (which i u is.here)
+      ⊎_elim {C = IsControlOf sides d i u} (λ (own : (i ≡ number) × (u ≡ end)). absurd (differs own.0)) (λ (other : (i ≢ number) × (slice_get d.endpoints i ≡ Some u)). record { here = other.1; control = is.control }) (which i u is.here)
 
-  met_before : (i : ℕ) (u : Endpoint) → IsMetControl (accepted_transfer d number x q h dummy notes).driver i u → i ≢ number → IsMetControl d i u
+  met_before : (i : ℕ) (u : Endpoint) → IsMetControl sides (accepted_transfer d number x q h dummy notes).driver i u → i ≢ number
+      → IsMetControl sides d i u
   met_before i u is differs = record {
     is = control_before i u is.is differs;
     met = record { there = record { linked = λ opens. none_open u.queue (sym idle ∙ opens); kept = is.met.there.kept }; near = is.met.near };
@@ -86,7 +88,8 @@ module _ (sides : Sides) (member : ℕ → Bool) (parts : StructureSets) (hand :
       ap (λ (o : Option Transfer). tail_block (Some (unfinished.Publish x.dummy words)) o i u.dummy) (newest_there d.transfers new)
       ∙ ap (λ (z : Bool). if z then x.dummy else u.dummy) (other_number number i (λ same. differs (sym same)))
 
-  course_beside : (i : ℕ) (u : Endpoint) (c : Course) (k : Numbers) → i ≢ number → HasCourse sides d i u c k → HasCourse sides (accepted_transfer d number x q h dummy notes).driver i u c k
+  course_beside : (i : ℕ) (u : Endpoint) (c : Course) (k : Numbers) → i ≢ number → HasCourse sides d i u c k
+      → HasCourse sides (accepted_transfer d number x q h dummy notes).driver i u c k
   course_beside i u c k differs f = record {
     queue = f.queue;
     endpoint = f.endpoint;
@@ -102,7 +105,8 @@ module _ (sides : Sides) (member : ℕ → Bool) (parts : StructureSets) (hand :
   pub adds : AddsTransfer d (accepted_transfer d number x q h dummy notes).driver (new_transfer number q x.dummy) asks now
   adds = record { transfers = refl; fresh = refl; reports = refl; store = refl; asked = asked }
 
-  telling_beside : (i : ℕ) (u : Endpoint) (k : Numbers) → i ≢ number → HasTelling d asks i u sides.whole v k → HasTelling (accepted_transfer d number x q h dummy notes).driver now i u sides.whole v k
+  telling_beside : (i : ℕ) (u : Endpoint) (k : Numbers) → i ≢ number → HasTelling d asks i u sides.whole v k
+      → HasTelling (accepted_transfer d number x q h dummy notes).driver now i u sides.whole v k
   telling_beside i u k differs f = record {
     reported = f.reported;
     untold = f.untold;
@@ -114,7 +118,8 @@ module _ (sides : Sides) (member : ℕ → Bool) (parts : StructureSets) (hand :
 
   -- ---- what was read
 
-  pub read_stays : (t n : ℕ) (y : Transfer) (r : Request) → slice_get d.transfers t ≡ Some y → y.released ≡ false → 2 ≤ y.qtds → IsReadTo hand parts n (note_at d.notes) y r → IsReadTo hand parts n (note_at notes) y r
+  pub read_stays : (t n : ℕ) (y : Transfer) (r : Request) → slice_get d.transfers t ≡ Some y → y.released ≡ false → 2 ≤ y.qtds
+      → IsReadTo hand parts n (note_at d.notes) y r → IsReadTo hand parts n (note_at notes) y r
   read_stays t n y r there kept some k =
       let p : IsAtPlace (note_in d.notes) y = places t y there kept in
       let most = p.most in
@@ -137,7 +142,8 @@ module _ (sides : Sides) (member : ℕ → Bool) (parts : StructureSets) (hand :
       two_of b (suc i) most = inr (one_of (note_at d.notes b).next i (omega (arith, most)))
 
   -- the first request of an endpoint, where it has one
-  pub read_first : (i t : ℕ) (u : Endpoint) (y : Transfer) → IsMetControl d i u → told_end u ≡ None → u.next ≡ Some t → slice_get (d.transfers ++ new_transfer number q x.dummy ∷ []) t ≡ Some y
+  pub read_first : (i t : ℕ) (u : Endpoint) (y : Transfer) → IsMetControl sides d i u → told_end u ≡ None → u.next ≡ Some t
+      → slice_get (d.transfers ++ new_transfer number q x.dummy ∷ []) t ≡ Some y
       → IsReadTo hand parts (32 * u.queue) (note_at notes) y ((a.numbers (32 * u.queue)).requests.requests 0)
   read_first i t u y is going next there =
       let n = 32 * u.queue in
@@ -158,15 +164,19 @@ module _ (sides : Sides) (member : ℕ → Bool) (parts : StructureSets) (hand :
   pub record OwnAsks : Type 0 where
     pub course : HasCourse sides (accepted_transfer d number x q h dummy notes).driver number (with_queued x dummy (length d.transfers)) (a.courses (32 * x.queue)) (later (32 * x.queue))
     pub publishing : IsPublishing (accepted_transfer d number x q h dummy notes).driver (accepted_transfer d number x q h dummy notes).memory (with_queued x dummy (length d.transfers)) (parts (32 * x.queue)) (a.courses (32 * x.queue)) (later (32 * x.queue))
-    pub read : (t : ℕ) (y : Transfer) → told_end (with_queued x dummy (length d.transfers)) ≡ None → (with_queued x dummy (length d.transfers)).next ≡ Some t → slice_get (d.transfers ++ new_transfer number q x.dummy ∷ []) t ≡ Some y
+    pub read : (t : ℕ) (y : Transfer) → told_end (with_queued x dummy (length d.transfers)) ≡ None
+        → (with_queued x dummy (length d.transfers)).next ≡ Some t
+        → slice_get (d.transfers ++ new_transfer number q x.dummy ∷ []) t ≡ Some y
         → IsReadTo hand parts (32 * x.queue) (note_at notes) y ((later (32 * x.queue)).requests.requests 0)
-    pub telling : x.cancelled ≡ false → HasTelling (accepted_transfer d number x q h dummy notes).driver now number (with_queued x dummy (length d.transfers)) sides.whole v (later (32 * x.queue))
+    pub telling : x.cancelled ≡ false
+        → HasTelling (accepted_transfer d number x q h dummy notes).driver now number (with_queued x dummy (length d.transfers)) sides.whole v (later (32 * x.queue))
     pub counted : IsCountedOn wire (accepted_transfer d number x q h dummy notes).driver v number (with_queued x dummy (length d.transfers))
 
-  pub accepted_asks : AreRecords (accepted_transfer d number x q h dummy notes).driver now a.courses later (has_left (accepted_transfer d number x q h dummy notes).driver) v
-      → ((i : ℕ) (u : Endpoint) → IsMetControl d i u → i ≢ number → later (32 * u.queue) ≡ a.numbers (32 * u.queue)) → (is_control x.desc.kind ≡ true → OwnAsks)
+  pub accepted_asks : AreRecords (accepted_transfer d number x q h dummy notes).driver now a.courses later (has_left sides (accepted_transfer d number x q h dummy notes).driver) v
+      → ((i : ℕ) (u : Endpoint) → IsMetControl sides d i u → i ≢ number → later (32 * u.queue) ≡ a.numbers (32 * u.queue))
+      → ((n : ℕ) → (later n).endpoint ≡ (a.numbers n).endpoint) → (sides.asks x.desc ≡ true → OwnAsks)
       → AsksIn sides member parts hand (record { courses = a.courses; numbers = later }) v now (accepted_transfer d number x q h dummy notes).driver (accepted_transfer d number x q h dummy notes).memory wire
-  accepted_asks records same own = record {
+  accepted_asks records same fields own = record {
     stand = world.stand;
     records = records;
     each = λ i u is.
@@ -174,6 +184,12 @@ module _ (sides : Sides) (member : ℕ → Bool) (parts : StructureSets) (hand :
         (λ differs.
         let met = met_before i u is differs in
         subst (λ (k : Numbers). HasCourse sides taken i u (a.courses (32 * u.queue)) k) (sym (same i u met differs)) (course_beside i u (a.courses (32 * u.queue)) (a.numbers (32 * u.queue)) differs (world.each i u met)));
+    asked = λ n u has there.
+        let at : slice_get taken.endpoints (a.numbers n).endpoint ≡ Some u = ap (slice_get taken.endpoints) (sym (fields n)) ∙ there in
+        ⊎_elim {C = sides.asks u.desc ≡ true}
+        (λ (is_own : ((a.numbers n).endpoint ≡ number) × (u ≡ end)).
+        ap (λ (z : Endpoint). sides.asks z.desc) is_own.1 ∙ world.asked n x has (ap (slice_get d.endpoints) is_own.0 ∙ here))
+        (λ (is_other : ((a.numbers n).endpoint ≢ number) × (slice_get d.endpoints (a.numbers n).endpoint ≡ Some u)). world.asked n u has is_other.1) (which (a.numbers n).endpoint u at);
     publishing = λ i u is next.
         by i u is.is (λ (j : ℕ) (z : Endpoint). IsPublishing taken (accepted_transfer d number x q h dummy notes).memory z (parts (32 * z.queue)) (a.courses (32 * z.queue)) (later (32 * z.queue))) (λ control. (own control).publishing)
         (λ differs. absurd (false≢true (sym (not_next i differs) ∙ next)));
@@ -190,7 +206,7 @@ module _ (sides : Sides) (member : ℕ → Bool) (parts : StructureSets) (hand :
         let met = met_before i u is differs in
         subst (λ (k : Numbers). HasTelling taken now i u sides.whole v k) (sym (same i u met differs)) (telling_beside i u (a.numbers (32 * u.queue)) differs (world.telling i u met live))) kept;
     given = λ i u is.
-        ⊎_elim (λ (is_own : (i ≡ number) × (u ≡ end)). subst (λ (z : Endpoint). IsGiven sides z.desc) (sym is_own.1) (world.given number x (record { here = here; control = sym (ap (λ (z : Endpoint). is_control z.desc.kind) is_own.1) ∙ is.control })))
+        ⊎_elim (λ (is_own : (i ≡ number) × (u ≡ end)). subst (λ (z : Endpoint). IsGiven sides z.desc) (sym is_own.1) (world.given number x (record { here = here; control = sym (ap (λ (z : Endpoint). sides.asks z.desc) is_own.1) ∙ is.control })))
         (λ (other : (i ≢ number) × (slice_get d.endpoints i ≡ Some u)). world.given i u (record { here = other.1; control = is.control })) (which i u is.here);
     counts = λ i u is off.
         by i u is (λ (j : ℕ) (z : Endpoint). IsCountedOn wire taken v j z) (λ control. (own control).counted)
@@ -216,9 +232,10 @@ module _ (sides : Sides) (member : ℕ → Bool) (parts : StructureSets) (hand :
     unmissed = record { structures = world.unmissed.structures; in_hand = world.unmissed.in_hand; first = λ some t is range. absurd (omega (arith, some)) };
   }
     where
-      by : (i : ℕ) (u : Endpoint) → IsControlOf taken i u → (P : ℕ → Endpoint → Type 0) → (is_control x.desc.kind ≡ true → P number end) → (i ≢ number → P i u) → P i u
+      by : (i : ℕ) (u : Endpoint) → IsControlOf sides taken i u → (P : ℕ → Endpoint → Type 0) → (sides.asks x.desc ≡ true → P number end)
+          → (i ≢ number → P i u) → P i u
       by i u is P mine other =
           ⊎_elim {C = P i u}
           (λ (is_own : (i ≡ number) × (u ≡ end)).
-          subst (λ (j : ℕ). P j u) (sym is_own.0) (subst (P number) (sym is_own.1) (mine (sym (ap (λ (z : Endpoint). is_control z.desc.kind) is_own.1) ∙ is.control))))
+          subst (λ (j : ℕ). P j u) (sym is_own.0) (subst (P number) (sym is_own.1) (mine (sym (ap (λ (z : Endpoint). sides.asks z.desc) is_own.1) ∙ is.control))))
           (λ (is_other : (i ≢ number) × (slice_get d.endpoints i ≡ Some u)). other is_other.0) (which i u is.here)

@@ -4,7 +4,7 @@ use Rattle.std.proofs.lemmas.Option.{same_Some}
 use Rattle.law_common.proofs.Numbers.{same_blocks}
 use Rattle.bus_wire.specs.Bus.{Fixed}
 use Rattle.drv_table.specs.declared.content.Endpoint.{Endpoint}
-use Rattle.drv_table.specs.Words.{head_block, is_control}
+use Rattle.drv_table.specs.Words.{head_block}
 use Rattle.law_driver_ring.specs.fed_queues.Places.{HasHead}
 use Rattle.law_structures.specs.lent_structures.Structures.{StructureSets}
 use Rattle.law_queues.proofs.lemmas.publish_laws.Apart.{queue_placed, queues_same}
@@ -21,31 +21,33 @@ use Rattle.law_reports.specs.requests.Courses.{Course, NoQueue, Asks, Rests, has
 use Rattle.law_reports.specs.requests.Spared.{KeepsEndpoints}
 use Rattle.law_reports.proofs.lemmas.requests.QueueChanging.{all_kept}
 use Rattle.law_reports.proofs.lemmas.requests.Writing.{same_kept}
-use Rattle.law_world.specs.streams.Feeding.{IsFeeding}
 use Rattle.law_world.proofs.lemmas.streams.Heads.{not_head}
+use Rattle.law_reports.specs.requests.Footing.{IsFooting}
 use Rattle.law_reports.specs.requests.Asking.{Sides, Asking, IsMetControl, IsAskingWorld}
 
 -- ---- the endpoint
 
-pub record HasOwner (w : World) (a : Asking) (n : ℕ) : Type 0 where
+pub record HasOwner (g : Sides) (w : World) (a : Asking) (n : ℕ) : Type 0 where
   pub number : ℕ
   pub endpoint : Endpoint
-  pub control : IsMetControl w.driver number endpoint
+  pub control : IsMetControl g w.driver number endpoint
   pub at : n ≡ 32 * endpoint.queue
   pub is : (a.numbers n).endpoint ≡ number
 
-module _ (g : Sides) (fixed : Fixed) (member : ℕ → Bool) (x : Streams) (s : Standing) (a : Asking) (v : Windows) (asks : ℕ → Request) (w : World) (f : IsFeeding fixed member x s w) (z : IsAskingWorld g fixed member s a v asks w) where
+module _ (g : Sides) (fixed : Fixed) (member : ℕ → Bool) (x : Streams) (s : Standing) (a : Asking) (v : Windows) (asks : ℕ → Request)
+    (w : World) (f : IsFooting member x s w) (z : IsAskingWorld g fixed member s a v asks w) where
   -- two that are there at one place are one
-  pub one_queue : (e i : ℕ) (y t : Endpoint) → slice_get w.driver.endpoints e ≡ Some y → slice_get w.driver.endpoints i ≡ Some t → y.gone ≡ false → t.gone ≡ false → y.queue ≡ t.queue → e ≡ i
+  pub one_queue : (e i : ℕ) (y t : Endpoint) → slice_get w.driver.endpoints e ≡ Some y → slice_get w.driver.endpoints i ≡ Some t
+      → y.gone ≡ false → t.gone ≡ false → y.queue ≡ t.queue → e ≡ i
   one_queue e i y t here there kept held same =
-      queues_same y.queue t.queue e i same (queue_placed w.driver f.working.place.sound.owners e y here (f.turns.asynchronous.endpoints e y here) kept)
-      (queue_placed w.driver f.working.place.sound.owners i t there (f.turns.asynchronous.endpoints i t there) held)
+      queues_same y.queue t.queue e i same (queue_placed w.driver f.owners e y here (f.turns.asynchronous.endpoints e y here) kept)
+      (queue_placed w.driver f.owners i t there (f.turns.asynchronous.endpoints i t there) held)
 
-  pub owner_of : (n : ℕ) → have_queues a.courses n ≡ true → HasOwner w a n
+  pub owner_of : (n : ℕ) → have_queues a.courses n ≡ true → HasOwner g w a n
   owner_of n has =
       let o : IsOfEndpoint w.driver (a.numbers n).requests.endpoint n (a.numbers n).endpoint = (z.records.each n has).numbered.own.endpoint in
-      ⊎_elim {C = HasOwner w a n}
-      (λ (head : n ≡ 32 * head_block). absurd (not_head w.driver (a.numbers n).endpoint o.own f.working.place.sound.owners f.turns.asynchronous o.here o.held (sym o.queue ∙ head)))
+      ⊎_elim {C = HasOwner g w a n}
+      (λ (head : n ≡ 32 * head_block). absurd (not_head w.driver (a.numbers n).endpoint o.own f.owners f.turns.asynchronous o.here o.held (sym o.queue ∙ head)))
       (λ (h : HasHead w.driver n).
       let same : h.number ≡ (a.numbers n).endpoint =
       one_queue h.number (a.numbers n).endpoint h.endpoint o.own h.here o.here h.met.there.kept o.held (same_blocks h.endpoint.queue o.own.queue (sym h.at ∙ o.queue)) in
@@ -53,7 +55,7 @@ module _ (g : Sides) (fixed : Fixed) (member : ℕ → Bool) (x : Streams) (s : 
       record {
         number = h.number;
         endpoint = h.endpoint;
-        control = record { is = record { here = h.here; control = ap (λ (y : Endpoint). is_control y.desc.kind) (sym one) ∙ ap is_control o.control }; met = h.met };
+        control = record { is = record { here = h.here; control = ap (λ (y : Endpoint). g.asks y.desc) (sym one) ∙ z.asked n o.own has o.here }; met = h.met };
         at = h.at;
         is = sym same;
       }) (f.queues.met.only n (z.stand.members n has))
@@ -61,11 +63,13 @@ module _ (g : Sides) (fixed : Fixed) (member : ℕ → Bool) (x : Streams) (s : 
 -- ---- structures beside the queues
 
 module _ {W : Type 0} (device : W → ℕ → ℕ → Option Device) (parts now : StructureSets) (hand later : Hand) (wire : W) (side : (k : ℕ) → SameSide hand later k) (alike : SameHand hand later) where
-  course_beside : (k : ℕ) (c : Course) → (has_queue c ≡ true → now k ≡ parts k) → IsCourse device parts hand wire k c → IsCourse device now later wire k c
+  course_beside : (k : ℕ) (c : Course) → (has_queue c ≡ true → now k ≡ parts k) → IsCourse device parts hand wire k c
+      → IsCourse device now later wire k c
   course_beside k NoQueue same z = tt
   course_beside k (Asks v b l) same z = same_kept device parts now hand later wire k (side k) alike (same refl) (Asks v b l) z
   course_beside k (Rests v b c) same z = same_kept device parts now hand later wire k (side k) alike (same refl) (Rests v b c) z
 
-  pub stand_beside : (member : ℕ → Bool) (courses : ℕ → Course) → ((k : ℕ) → have_queues courses k ≡ true → now k ≡ parts k) → KeepsEndpoints member parts now → CoursesStand device member courses parts hand wire
+  pub stand_beside : (member : ℕ → Bool) (courses : ℕ → Course) → ((k : ℕ) → have_queues courses k ≡ true → now k ≡ parts k)
+      → KeepsEndpoints member parts now → CoursesStand device member courses parts hand wire
       → CoursesStand device member courses now later wire
   stand_beside member courses same ends stand = all_kept device member courses parts now hand later wire (λ k. course_beside k (courses k) (same k)) ends stand

@@ -7,7 +7,6 @@ use Rattle.law_queues.proofs.Common.{none_open}
 use Rattle.law_common.proofs.Lists.{set_here, set_there}
 use Rattle.law_reports.proofs.Common.{regone}
 use Rattle.usb_base.specs.declared.endpoints.EndCause.{EndCause}
-use Rattle.usb_base.specs.declared.endpoints.EndCause.TheVariants as causes
 use Rattle.usb_base.specs.declared.endpoints.EpDesc.{EpDesc}
 use Rattle.word_mem.specs.Memory.{Mem}
 use Rattle.bus_wire.specs.Bus.{Wired}
@@ -17,7 +16,6 @@ use Rattle.drv_table.specs.DriverContent.{DriverContent}
 use Rattle.drv_table.specs.Harvests.{note_at}
 use Rattle.drv_table.specs.CancelOffers.{first_end, accepted_cancel}
 use Rattle.drv_table.specs.Releases.{ended_by_cancel}
-use Rattle.drv_table.specs.Words.{is_control}
 use Rattle.law_driver.specs.endpoint_lives.Lives.{told_end, is_one_of}
 use Rattle.law_driver.specs.chained_transfers.Asynchronous.{OnlyAsynchronous}
 use Rattle.law_queues.proofs.lemmas.fed_lends.Asked.{set_which}
@@ -30,11 +28,12 @@ use Rattle.law_reports.specs.requests.driver_requests.Rows.{EndpointStays, Keeps
 use Rattle.law_reports.specs.requests.Courses.{Course, queue_in}
 use Rattle.law_reports.proofs.lemmas.requests.Rows.{accepted_keeps_records}
 use Rattle.law_queues.specs.standing_fronts.Tails.{tail_block}
-use Rattle.law_reports.specs.requests.Asking.{Sides, IsGiven, Asking, left_with, has_left, is_publishing, HasCourse, IsReadTo, HasTelling, IsMetControl}
-use Rattle.law_reports.proofs.lemmas.requests.Inside.{AsksIn}
+use Rattle.law_reports.specs.requests.Asking.{Sides, IsGiven, Asking, left_with, has_left, is_publishing, HasCourse, IsReadTo, HasTelling, IsMetControl, AsksIn}
+use Rattle.usb_base.specs.declared.endpoints.EndCause.TheVariants as causes
 
 -- what its report has of its end stays: its cancel isn't told yet
-same_end : (x : Endpoint) (o : Option EndCause) → x.ended ≡ o → (ended_by_cancel o ≡ true → x.cancelled ≡ true) → x.cancelled ≡ false → x.gone ≡ false → told_end (record x { cancelled = true; ended = first_end o }) ≡ told_end x
+same_end : (x : Endpoint) (o : Option EndCause) → x.ended ≡ o → (ended_by_cancel o ≡ true → x.cancelled ≡ true) → x.cancelled ≡ false
+    → x.gone ≡ false → told_end (record x { cancelled = true; ended = first_end o }) ≡ told_end x
 same_end x None is only fresh kept =
     ap (λ (g : Bool). if not g then None else Some causes.Cancel) kept
     ∙ sym (ap (λ (o : Option EndCause). if (ended_by_cancel o && x.cancelled) && not x.gone then None else o) is)
@@ -47,7 +46,8 @@ same_end x (Some cause) is only fresh kept =
     by true on = absurd (false≢true (sym fresh ∙ only on))
     by false off = off
 
-module _ (sides : Sides) (member : ℕ → Bool) (parts : StructureSets) (hand : Hand) (a : Asking) (v : Windows) (asks : ℕ → Request) (d : DriverContent) (m : Mem) (wire : Wired) (world : AsksIn sides member parts hand a v asks d m wire)
+module _ (sides : Sides) (member : ℕ → Bool) (parts : StructureSets) (hand : Hand) (a : Asking) (v : Windows) (asks : ℕ → Request)
+    (d : DriverContent) (m : Mem) (wire : Wired) (world : AsksIn sides member parts hand a v asks d m wire)
     (only : OnlyAsynchronous d) (number : ℕ) (x : Endpoint) (idle : d.command ≡ None) (here : slice_get d.endpoints number ≡ Some x) (fresh : x.cancelled ≡ false) where
   abbrev end : Endpoint
   end = record x { cancelled = true; ended = first_end x.ended }
@@ -55,7 +55,8 @@ module _ (sides : Sides) (member : ℕ → Bool) (parts : StructureSets) (hand :
   abbrev leaving : DriverContent
   leaving = accepted_cancel d number x
 
-  which : (i : ℕ) (u : Endpoint) → slice_get (accepted_cancel d number x).endpoints i ≡ Some u → ((i ≡ number) × (u ≡ end)) ⊎ ((i ≢ number) × (slice_get d.endpoints i ≡ Some u))
+  which : (i : ℕ) (u : Endpoint) → slice_get (accepted_cancel d number x).endpoints i ≡ Some u
+      → ((i ≡ number) × (u ≡ end)) ⊎ ((i ≢ number) × (slice_get d.endpoints i ≡ Some u))
   which i u there = set_which d.endpoints number i x end u here there
 
   -- what it was before
@@ -89,11 +90,12 @@ module _ (sides : Sides) (member : ℕ → Bool) (parts : StructureSets) (hand :
       (λ (other : (i ≢ number) × (slice_get d.endpoints i ≡ Some u)). record { was = u; here_was = other.1; desc = refl; queue = refl; dummy = refl; next = refl; linked = refl; gone = refl; told = λ kept. refl; live = λ on. refl })
       (which i u there)
 
-  met_was : (i : ℕ) (u : Endpoint) (is : IsMetControl (accepted_cancel d number x) i u) → IsMetControl d i (was_one i u is.is.here).was
+  met_was : (i : ℕ) (u : Endpoint) (is : IsMetControl sides (accepted_cancel d number x) i u)
+      → IsMetControl sides d i (was_one i u is.is.here).was
   met_was i u is =
       let b = was_one i u is.is.here in
       record {
-        is = record { here = b.here_was; control = ap (λ (z : EpDesc). is_control z.kind) b.desc ∙ is.is.control };
+        is = record { here = b.here_was; control = ap (λ (z : EpDesc). sides.asks z) b.desc ∙ is.is.control };
         met = record {
           there = record { linked = λ opening. none_open b.was.queue (sym idle ∙ opening); kept = b.gone ∙ is.met.there.kept };
           near = ap (λ (z : Bool). z || (is_one_of i d.waiting || is_one_of i d.rung)) b.linked ∙ is.met.near;
@@ -118,18 +120,18 @@ module _ (sides : Sides) (member : ℕ → Bool) (parts : StructureSets) (hand :
     notes = λ t b y there of held piece. refl;
   }
 
-  left_before : (i : ℕ) → has_left (accepted_cancel d number x) i ≡ true → has_left d i ≡ true
+  left_before : (i : ℕ) → has_left sides (accepted_cancel d number x) i ≡ true → has_left sides d i ≡ true
   left_before i on =
-      ⊎_elim {C = has_left d i ≡ true}
+      ⊎_elim {C = has_left sides d i ≡ true}
       (λ (same : i ≡ number).
-      subst (λ (j : ℕ). has_left d j ≡ true) (sym same)
-      (ap (left_with d number) here ∙ sym (ap (left_with leaving number) (set_here d.endpoints number x end here)) ∙ subst (λ (j : ℕ). has_left leaving j ≡ true) same on))
-      (λ (differs : i ≢ number). ap (left_with d i) (sym (set_there d.endpoints number i end differs)) ∙ on) (cases_eq i number)
+      subst (λ (j : ℕ). has_left sides d j ≡ true) (sym same)
+      (ap (left_with sides d number) here ∙ sym (ap (left_with sides leaving number) (set_here d.endpoints number x end here)) ∙ subst (λ (j : ℕ). has_left sides leaving j ≡ true) same on))
+      (λ (differs : i ≢ number). ap (left_with sides d i) (sym (set_there d.endpoints number i end differs)) ∙ on) (cases_eq i number)
 
   pub cancelled_asks : AsksIn sides member parts hand a v asks (accepted_cancel d number x) m wire
   cancelled_asks = record {
     stand = world.stand;
-    records = regone leaving asks a.courses a.numbers (has_left d) (has_left leaving) v left_before (accepted_keeps_records d leaving asks a.courses a.numbers (has_left d) v keeps refl world.records);
+    records = regone leaving asks a.courses a.numbers (has_left sides d) (has_left sides leaving) v left_before (accepted_keeps_records d leaving asks a.courses a.numbers (has_left sides d) v keeps refl world.records);
     each = λ i u is.
         let b = was_one i u is.is.here in
         let f : HasCourse sides d i b.was (a.courses (32 * u.queue)) (a.numbers (32 * u.queue)) =
@@ -146,6 +148,7 @@ module _ (sides : Sides) (member : ℕ → Bool) (parts : StructureSets) (hand :
           ended = λ cause told. f.ended cause (sym (b.told is.met.there.kept) ∙ told);
           owed = λ j g at same. f.owed j g at (same ∙ sym b.queue);
         };
+    asked = λ n u has there. let b = was_one (a.numbers n).endpoint u there in ap (λ (z : EpDesc). sides.asks z) (sym b.desc) ∙ world.asked n b.was has b.here_was;
     publishing = λ i u is next. absurd (false≢true next);
     read = λ i t u y is going next there.
         let b = was_one i u is.is.here in
@@ -158,10 +161,10 @@ module _ (sides : Sides) (member : ℕ → Bool) (parts : StructureSets) (hand :
         record { reported = f.reported; untold = f.untold; closed = f.closed; going = f.going; uncancelled = f.uncancelled; telling = record { numbers = f.telling.numbers; told = f.telling.told; wait = f.telling.wait } };
     given = λ i u is.
         let b = was_one i u is.here in
-        subst (IsGiven sides) b.desc (world.given i b.was (record { here = b.here_was; control = ap (λ (z : EpDesc). is_control z.kind) b.desc ∙ is.control }));
+        subst (IsGiven sides) b.desc (world.given i b.was (record { here = b.here_was; control = ap (λ (z : EpDesc). sides.asks z) b.desc ∙ is.control }));
     counts = λ i u is off.
         let b = was_one i u is.here in
-        let f = world.counts i b.was (record { here = b.here_was; control = ap (λ (z : EpDesc). is_control z.kind) b.desc ∙ is.control }) (ap (λ (z : Option Command). opens z b.was.queue && not b.was.gone) idle) in
+        let f = world.counts i b.was (record { here = b.here_was; control = ap (λ (z : EpDesc). sides.asks z) b.desc ∙ is.control }) (ap (λ (z : Option Command). opens z b.was.queue && not b.was.gone) idle) in
         record { device = f.device; is = ap (λ (z : EpDesc). control_of wire z.name.addr z.name.num) (sym b.desc) ∙ f.is; acted = f.acted };
     unopened = λ addr num c least none first.
         world.unopened addr num c least

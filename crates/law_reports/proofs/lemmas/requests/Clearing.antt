@@ -4,17 +4,14 @@ use Rattle.std.specs.Prelude.{◌⊎◌}
 use Rattle.std.proofs.lemmas.Bool.{false≢true}
 use Rattle.law_common.proofs.Booleans.{first_of_both, less_met, is_left}
 use Rattle.bus_wire.specs.Bus.{Fixed}
-use Rattle.drv_table.specs.declared.content.Bell.TheVariants as bells
-use Rattle.drv_table.specs.declared.content.Turn.TheVariants as turns
 use Rattle.drv_table.specs.declared.content.Endpoint.{Endpoint}
 use Rattle.drv_table.specs.declared.content.Transfer.{Transfer}
 use Rattle.drv_table.specs.declared.rows.DriverRow.{DriverRow}
-use Rattle.drv_table.specs.declared.rows.DriverRow.TheVariants as rows
 use Rattle.drv_table.specs.DriverContent.{DriverContent}
 use Rattle.drv_table.specs.Harvests.{note_at}
 use Rattle.drv_table.specs.Parts.{Parts}
 use Rattle.drv_table.specs.Rows.{driver_row, after_driver_row}
-use Rattle.drv_table.specs.Words.{head_block, is_control}
+use Rattle.drv_table.specs.Words.{head_block}
 use Rattle.law_driver.specs.endpoint_lives.Lives.{told_end, may_meet}
 use Rattle.law_driver_ring.specs.fed_queues.Places.{IsMet, HasHead, AreMet}
 use Rattle.law_queues.proofs.lemmas.leaving_drivers.Clearing.{clear_finds}
@@ -23,10 +20,9 @@ use Rattle.law_world.specs.streams.narrowed_streams.Narrowed.{left_names}
 use Rattle.claims_report.specs.Requests.{Request}
 use Rattle.law_ring.specs.Stores.{IsWider}
 use Rattle.claims_report.specs.Controls.{control_of}
-use Rattle.bus_world.specs.World.{World, driver_parts, driver_next, with_parts}
+use Rattle.bus_world.specs.World.{World, driver_parts, driver_next}
 use Rattle.law_world.specs.steps.Streaming.{Streams, Standing}
 use Rattle.claims_world.specs.Requests.{wired, Windows}
-use Rattle.law_reports.specs.requests.driver_requests.Rows.{given_by, KeepsEndpoint}
 use Rattle.law_reports.specs.requests.Courses.{NoQueue, CoursesStand}
 use Rattle.law_reports.specs.requests.Records.{AreRecords}
 use Rattle.law_reports.proofs.lemmas.requests.Rows.{row_keeps_records}
@@ -35,11 +31,17 @@ use Rattle.law_world.specs.streams.Left.{taking_of}
 use Rattle.law_world.specs.streams.Whole.{IsWhole}
 use Rattle.law_world.proofs.lemmas.streams.Fewer.{kept_of}
 use Rattle.law_world.proofs.lemmas.streams.LeavingCleared.{narrow_of, stays_open, clear_whole}
-use Rattle.law_reports.specs.requests.Asking.{Sides, Asking, left_with, has_left, HasCourse, IsMetControl, IsReadTo, IsAskingWorld, HasAskingWorld}
+use Rattle.law_reports.specs.requests.Asking.{Sides, Asking, left_with, has_left, HasCourse, IsMetControl, IsReadTo, IsAskingWorld, HasAskingWorld, AsksIn}
 use Rattle.law_reports.specs.requests.Narrowing.{courses_met, HadQueue, HaveGone}
 use Rattle.law_reports.specs.requests.Rows.{ClearKeepsAsking, IsHeadOfNone}
-use Rattle.law_reports.proofs.lemmas.requests.Narrowing.{courses_are_met, records_are_met}
+use Rattle.law_reports.proofs.lemmas.requests.Narrowing.{courses_are_met, records_are_met, had}
 use Rattle.law_reports.proofs.lemmas.requests.Leaving.{idle_quiet, same_endpoint, RowLeaves, each_still, world_left}
+use Rattle.law_reports.specs.requests.Footing.{IsFooting}
+use Rattle.law_reports.proofs.lemmas.requests.Footing.{footing}
+use Rattle.word_mem.specs.Memory.{Mem}
+use Rattle.drv_table.specs.declared.content.Bell.TheVariants as bells
+use Rattle.drv_table.specs.declared.content.Turn.TheVariants as turns
+use Rattle.drv_table.specs.declared.rows.DriverRow.TheVariants as rows
 
 abbrev cleared : DriverContent → DriverContent
 cleared d = record d { cleared = d.cleared ++ d.rung; rung = []; bell = bells.Quiet; turn = turns.Harvest }
@@ -48,16 +50,9 @@ not_both : (a b : Bool) → (a && not b) ≡ true → b ≡ false → a ≡ true
 not_both true b on off = refl
 not_both false b on off = absurd (false≢true on)
 
-module _ (g : Sides) (fixed : Fixed) (takes : ℕ → ℕ → Bool) (member : ℕ → Bool) (x : Streams) (s : Standing) (a : Asking) (v : Windows) (asks : ℕ → Request) (w : World) (row : driver_row (driver_parts w) ≡ rows.ClearAdvance) (head : IsHeadOfNone x) (k : IsWhole fixed takes member x s w) (z : IsAskingWorld g fixed member s a v asks w) where
-  abbrev narrow : ℕ → Bool
-  narrow = narrow_of w
-
-  driver_is : (driver_next w).driver ≡ cleared w.driver
-  driver_is = ap (λ (r : DriverRow). (after_driver_row r (driver_parts w)).driver) row
-
-  idle : w.driver.command ≡ None
-  idle = (clear_finds (driver_parts w) row).idle
-
+module _ (g : Sides) (fixed : Fixed) (member : ℕ → Bool) (x : Streams) (s : Standing) (a : Asking) (v : Windows) (asks : ℕ → Request)
+    (w : World) (k : IsFooting member x s w) (z : IsAskingWorld g fixed member s a v asks w)
+    (narrow : ℕ → Bool) (met : AreMet (cleared w.driver) narrow) (idle : w.driver.command ≡ None) (more : Mem) where
   near : (e : ℕ) (y : Endpoint) → may_meet (cleared w.driver) e y ≡ true → may_meet w.driver e y ≡ true
   near e y on = less_met y.linked _ _ on
 
@@ -78,73 +73,80 @@ module _ (g : Sides) (fixed : Fixed) (takes : ℕ → ℕ → Bool) (member : �
   met_was : (e : ℕ) (y : Endpoint) → IsMet (cleared w.driver) e y → IsMet w.driver e y
   met_was e y m = record { there = record { linked = m.there.linked; kept = m.there.kept }; near = near e y m.near }
 
-  whole : IsWhole fixed (taking_of takes (driver_next w).driver) (narrow_of w) (narrowed_to x (driver_next w).driver (narrow_of w)) s (driver_next w)
-  whole = clear_whole fixed takes member x s w row k
-
-  met : AreMet (cleared w.driver) (narrow_of w)
-  met = subst (λ (d : DriverContent). AreMet d (narrow_of w)) driver_is whole.feeding.queues.met
-
-  wider : IsWider (narrow_of w) member
+  wider : IsWider narrow member
   wider n on =
-      ⊎_elim {C = member n ≡ true} (λ (at : n ≡ 32 * head_block). ap member at ∙ k.feeding.queues.met.head)
-      (λ (h : HasHead (cleared w.driver) n). ap member h.at ∙ k.feeding.queues.met.each h.number h.endpoint h.here (met_was h.number h.endpoint h.met)) (met.only n on)
+      ⊎_elim {C = member n ≡ true} (λ (at : n ≡ 32 * head_block). ap member at ∙ k.queues.met.head)
+      (λ (h : HasHead (cleared w.driver) n). ap member h.at ∙ k.queues.met.each h.number h.endpoint h.here (met_was h.number h.endpoint h.met)) (met.only n on)
 
-  stand : CoursesStand control_of (narrow_of w) (courses_met (narrow_of w) a.courses) s.parts s.hand (wired fixed w)
-  stand = courses_are_met control_of member (narrow_of w) a.courses s.parts s.hand (wired fixed w) wider z.stand
+  stand : CoursesStand control_of narrow (courses_met narrow a.courses) s.parts s.hand (wired fixed w)
+  stand = courses_are_met control_of member narrow a.courses s.parts s.hand (wired fixed w) wider z.stand
 
   -- ---- who is gone
 
-  kept_by : (e : ℕ) (y : Endpoint) → slice_get w.driver.endpoints e ≡ Some y → may_meet w.driver e y ≡ true → (b : Bool) → y.gone ≡ b → y.gone ≡ false
-  kept_by e y here on true is = absurd (false≢true (sym (gone_are_unmet w.driver e y k.feeding.working.place.sound.owners here is) ∙ on))
+  kept_by : (e : ℕ) (y : Endpoint) → slice_get w.driver.endpoints e ≡ Some y → may_meet w.driver e y ≡ true → (b : Bool) → y.gone ≡ b
+      → y.gone ≡ false
+  kept_by e y here on true is = absurd (false≢true (sym (gone_are_unmet w.driver e y k.owners here is) ∙ on))
   kept_by e y here on false is = is
 
-  left_by : (e : ℕ) (y : Endpoint) → slice_get w.driver.endpoints e ≡ Some y → is_control y.desc.kind ≡ true → (b : Bool) → may_meet w.driver e y ≡ b → (has_left w.driver e ≡ true) ⊎ HadQueue a.courses a.numbers e
-  left_by e y here control false off = inl (ap (left_with w.driver e) here ∙ is_left (is_control y.desc.kind) (may_meet w.driver e y) control off)
+  left_by : (e : ℕ) (y : Endpoint) → slice_get w.driver.endpoints e ≡ Some y → g.asks y.desc ≡ true → (b : Bool) → may_meet w.driver e y ≡ b
+      → (has_left g w.driver e ≡ true) ⊎ HadQueue a.courses a.numbers e
+  left_by e y here control false off = inl (ap (left_with g w.driver e) here ∙ is_left (g.asks y.desc) (may_meet w.driver e y) control off)
   left_by e y here control true on =
-      let m : IsMetControl w.driver e y = record {
+      let m : IsMetControl g w.driver e y = record {
         is = record { here = here; control = control };
         met = record { there = record { linked = λ opening. let never : ◌≡◌ {A = Option _} None (Some _) = sym idle ∙ opening in cc; kept = kept_by e y here on y.gone refl }; near = on };
       } in
       let h = z.each e y m in
       inr (record { queue = 32 * y.queue; has = h.queue; is = h.number })
 
-  had_at : (e : ℕ) (o : Option Endpoint) → slice_get w.driver.endpoints e ≡ o → left_with (cleared w.driver) e o ≡ true → (has_left w.driver e ≡ true) ⊎ HadQueue a.courses a.numbers e
+  had_at : (e : ℕ) (o : Option Endpoint) → slice_get w.driver.endpoints e ≡ o → left_with g (cleared w.driver) e o ≡ true
+      → (has_left g w.driver e ≡ true) ⊎ HadQueue a.courses a.numbers e
   had_at e None is on = absurd (false≢true on)
-  had_at e (Some y) is on = left_by e y is (first_of_both (is_control y.desc.kind) (not (may_meet (cleared w.driver) e y)) on) (may_meet w.driver e y) refl
+  had_at e (Some y) is on = left_by e y is (first_of_both (g.asks y.desc) (not (may_meet (cleared w.driver) e y)) on) (may_meet w.driver e y) refl
 
-  gone : HaveGone (has_left w.driver) a.courses a.numbers (has_left (cleared w.driver))
+  gone : HaveGone (has_left g w.driver) a.courses a.numbers (has_left g (cleared w.driver))
   gone e on = had_at e (slice_get w.driver.endpoints e) refl on
 
-  recorded : AreRecords (cleared w.driver) asks (courses_met (narrow_of w) a.courses) a.numbers (has_left (cleared w.driver)) v
+  recorded : AreRecords (cleared w.driver) asks (courses_met narrow a.courses) a.numbers (has_left g (cleared w.driver)) v
   recorded =
-      records_are_met control_of (cleared w.driver) asks member (narrow_of w) a.courses a.numbers (has_left w.driver) (has_left (cleared w.driver)) v s.parts s.hand (wired fixed w) gone z.stand
-      (subst (λ (c : DriverContent). AreRecords c asks a.courses a.numbers (has_left w.driver) v) driver_is
-      (row_keeps_records (driver_parts w) (driver_row (driver_parts w)) asks a.courses a.numbers (has_left w.driver) v
-      (λ j has. subst (λ (r : DriverRow). KeepsEndpoint r (a.numbers j).endpoint) (sym row) tt)
-      (λ j i has few given. let never : ◌≡◌ {A = Option ℕ} None (Some ((a.numbers j).number i)) = ap given_by (sym row) ∙ given in cc) z.records))
+      records_are_met control_of (cleared w.driver) asks member narrow a.courses a.numbers (has_left g w.driver) (has_left g (cleared w.driver)) v s.parts s.hand (wired fixed w) gone z.stand
+      (row_keeps_records (driver_parts w) rows.ClearAdvance asks a.courses a.numbers (has_left g w.driver) v (λ j has. tt)
+      (λ j i has few given. let never : ◌≡◌ {A = Option ℕ} None (Some ((a.numbers j).number i)) = given in cc) z.records)
 
   -- ---- the world
 
   abbrev parts_now : Parts
-  parts_now = record { driver = cleared w.driver; registers = (driver_next w).registers; memory = (driver_next w).memory }
+  parts_now = record { driver = cleared w.driver; registers = w.registers; memory = more }
 
-  each : (e : ℕ) (y : Endpoint) → IsMetControl (cleared w.driver) e y → HasCourse g (cleared w.driver) e y (courses_met (narrow_of w) a.courses (32 * y.queue)) (a.numbers (32 * y.queue))
+  each : (e : ℕ) (y : Endpoint) → IsMetControl g (cleared w.driver) e y
+      → HasCourse g (cleared w.driver) e y (courses_met narrow a.courses (32 * y.queue)) (a.numbers (32 * y.queue))
   each e y m =
       subst (λ (b : Bool). HasCourse g (cleared w.driver) e y (if b then a.courses (32 * y.queue) else NoQueue) (a.numbers (32 * y.queue))) (sym (met.each e y m.is.here m.met))
       (each_still g fixed member s a v asks w parts_now leaves z e y m)
 
-  reads : (e t : ℕ) (y : Endpoint) (tr : Transfer) → IsMetControl (cleared w.driver) e y → told_end y ≡ None → y.next ≡ Some t → slice_get w.driver.transfers t ≡ Some tr
+  reads : (e t : ℕ) (y : Endpoint) (tr : Transfer) → IsMetControl g (cleared w.driver) e y → told_end y ≡ None → y.next ≡ Some t
+      → slice_get w.driver.transfers t ≡ Some tr
       → IsReadTo s.hand s.parts (32 * y.queue) (note_at w.driver.notes) tr ((a.numbers (32 * y.queue)).requests.requests 0)
   reads e t y tr m going next there = z.read e t y tr (record { is = record { here = m.is.here; control = m.is.control }; met = met_was e y m.met }) going next there
 
-  world : IsAskingWorld g fixed (narrow_of w) s (record { courses = courses_met (narrow_of w) a.courses; numbers = a.numbers }) v asks (driver_next w)
-  world =
-      subst (λ (c : DriverContent). IsAskingWorld g fixed (narrow_of w) s (record { courses = courses_met (narrow_of w) a.courses; numbers = a.numbers }) v asks (with_parts w (record { driver = c; registers = (driver_next w).registers; memory = (driver_next w).memory })))
-      (sym driver_is)
-      (world_left g fixed member s a v asks w parts_now leaves z (λ e y c. record { lines = refl; telling = λ reported waits t. record { numbers = t.numbers; told = t.told; wait = t.wait } }) (λ name u. refl)
-      (narrow_of w) s (courses_met (narrow_of w) a.courses) z.unmissed.structures z.unmissed.in_hand stand recorded each reads)
+  pub cleared_asks : AsksIn g narrow s.parts s.hand (record { courses = courses_met narrow a.courses; numbers = a.numbers }) v asks (cleared w.driver) more (wired fixed w)
+  cleared_asks =
+      world_left g fixed member s a v asks w parts_now leaves z (λ e y c. record { lines = refl; telling = λ reported waits t. record { numbers = t.numbers; told = t.told; wait = t.wait } }) (λ name u. refl)
+      narrow s (courses_met narrow a.courses) (had narrow a.courses) z.unmissed.structures z.unmissed.in_hand stand recorded each reads
 
-  pub cleared_world : HasAskingWorld g fixed takes x.stream x.packets v asks (driver_next w)
+module _ (g : Sides) (fixed : Fixed) (takes : ℕ → ℕ → Bool) (member : ℕ → Bool) (x : Streams) (s : Standing) (a : Asking) (v : Windows)
+    (asks : ℕ → Request) (w : World) (row : driver_row (driver_parts w) ≡ rows.ClearAdvance) (head : IsHeadOfNone x)
+    (k : IsWhole fixed takes member x s w) (z : IsAskingWorld g fixed member s a v asks w) where
+  driver_is : (driver_next w).driver ≡ cleared w.driver
+  driver_is = ap (λ (r : DriverRow). (after_driver_row r (driver_parts w)).driver) row
+
+  whole : IsWhole fixed (taking_of takes (driver_next w).driver) (narrow_of w) (narrowed_to x (driver_next w).driver (narrow_of w)) s (driver_next w)
+  whole = clear_whole fixed takes member x s w row k
+
+  still_met : AreMet (cleared w.driver) (narrow_of w)
+  still_met = subst (λ (d : DriverContent). AreMet d (narrow_of w)) driver_is whole.feeding.queues.met
+
+  cleared_world : HasAskingWorld g fixed takes x.stream x.packets v asks (driver_next w)
   cleared_world = record {
     member = narrow_of w;
     streams = (narrowed_to x (driver_next w).driver (narrow_of w)).streams;
@@ -154,7 +156,8 @@ module _ (g : Sides) (fixed : Fixed) (takes : ℕ → ℕ → Bool) (member : �
     outs = taking_of takes (driver_next w).driver;
     asking = record { courses = courses_met (narrow_of w) a.courses; numbers = a.numbers };
     whole = whole;
-    world = world;
+    world = subst (λ (c : DriverContent). AsksIn g (narrow_of w) s.parts s.hand (record { courses = courses_met (narrow_of w) a.courses; numbers = a.numbers }) v asks c (driver_next w).memory (wired fixed w)) (sym driver_is)
+        (cleared_asks g fixed member x s a v asks w (footing fixed takes member x s w k head) z (narrow_of w) still_met (clear_finds (driver_parts w) row).idle (driver_next w).memory);
     head = head;
     ins_stay = stays_open (driver_next w).driver true x.stream;
     outs_stay = stays_open (driver_next w).driver false takes;

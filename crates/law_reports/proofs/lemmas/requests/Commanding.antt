@@ -1,24 +1,22 @@
 -- A get, a put or a request is accepted: the requests of all control endpoints stand as they must.
-use Rattle.std.proofs.Common.{◌≡◌, ◌≢◌, ℕ, zero, suc, ◌-◌, ◌*◌, ◌<◌, ◌≤◌, ◌&&◌, not, Bool, true, false, List, [], ◌∷◌, ◌++◌, length, nat_eq, slice_get, if◌then◌else◌, Option, Some, None, option_map, ap, refl, sym, subst, ◌∙◌, ⊎_elim, arith, length-append, append_assoc}
+use Rattle.std.proofs.Common.{◌≡◌, ◌≢◌, ℕ, zero, suc, ◌-◌, ◌*◌, ◌<◌, ◌≤◌, ◌&&◌, not, Bool, true, false, List, [], ◌∷◌, ◌++◌, length, nat_eq, slice_get, if◌then◌else◌, Option, Some, None, option_map, ap, refl, sym, subst, ◌∙◌, ⊎_elim, arith, length-append, append_assoc, ◌==◌}
 use Rattle.std.specs.List.{AllByRecursion}
-use Rattle.std.proofs.lemmas.Bool.{cases_eq, eq-eqb, false≢true}
+use Rattle.std.proofs.lemmas.Bool.{cases_eq, eq-eqb, false≢true, eqb-true}
 use Rattle.std.proofs.lemmas.Option.{same_Some, slice_get_past}
+use Rattle.law_reports.proofs.Common.{asked_before}
 use Rattle.law_queues.proofs.Common.{none_open}
 use Rattle.law_driver.proofs.Common.{control_way}
 use Rattle.law_reports.proofs.Common.{regone}
 use Rattle.law_common.proofs.Lists.{set_here, set_there}
 use Rattle.law_common.proofs.Numbers.{other_number}
 use Rattle.law_world.proofs.Common.{newest_there}
-use Rattle.usb_base.specs.declared.commands.Cmd.TheVariants as commands
 use Rattle.usb_base.specs.declared.endpoints.EpName.{EpName}
 use Rattle.usb_base.specs.declared.packets.EpKind.{EpKind}
 use Rattle.usb_base.specs.declared.packets.Way.{Way}
-use Rattle.usb_base.specs.declared.packets.Way.TheVariants as ways
 use Rattle.word_mem.specs.Memory.{Mem, IsShaped}
 use Rattle.mem_runs.specs.Book.{Holding, holding, Stands}
 use Rattle.bus_wire.specs.Bus.{Wired}
 use Rattle.drv_table.specs.declared.content.Command.{Command}
-use Rattle.drv_table.specs.declared.content.Command.TheVariants as unfinished
 use Rattle.drv_table.specs.declared.content.Endpoint.{Endpoint}
 use Rattle.drv_table.specs.declared.content.QtdNote.{QtdNote}
 use Rattle.drv_table.specs.declared.content.Transfer.{Transfer}
@@ -65,12 +63,16 @@ use Rattle.law_reports.proofs.lemmas.requests.Rows.{other_is_accepted, request_i
 use Rattle.law_reports.specs.requests.Telling.{IsTelling}
 use Rattle.law_reports.proofs.lemmas.requests.Telling.{accepted_keeps_telling}
 use Rattle.law_queues.specs.standing_fronts.Tails.{tail_block}
-use Rattle.law_reports.specs.requests.Asking.{Sides, Asking, left_with, has_left, is_publishing, is_next_of, next_with, HasCourse, IsHeldRequest, IsPublishingAt, IsPublishing, IsReadTo, HasTelling, IsMetControl}
+use Rattle.law_reports.specs.requests.Asking.{Sides, Asking, left_with, has_left, is_publishing, is_next_of, next_with, HasCourse, IsHeldRequest, IsPublishingAt, IsPublishing, IsReadTo, HasTelling, IsMetControl, AsksIn, IsCountedOn}
 use Rattle.law_reports.proofs.lemmas.requests.Accepting.{adds, read_first, OwnAsks, accepted_asks}
-use Rattle.law_reports.proofs.lemmas.requests.Inside.{AsksIn, IsCountedOn}
 use Rattle.law_reports.proofs.lemmas.requests.Noting.{NotesStay, notes_stay, LendsBy, WillBeLent, request_lends}
 use Rattle.law_reports.proofs.lemmas.requests.Requested.{TakesRequest}
 use Rattle.law_reports.proofs.lemmas.requests.Storing.{next_first}
+use Rattle.usb_base.specs.declared.commands.Cmd.{Cmd}
+use Rattle.usb_base.specs.declared.endpoints.EpDesc.{EpDesc}
+use Rattle.usb_base.specs.declared.commands.Cmd.TheVariants as commands
+use Rattle.usb_base.specs.declared.packets.Way.TheVariants as ways
+use Rattle.drv_table.specs.declared.content.Command.TheVariants as unfinished
 
 none_some : {X : Type 0} (x : X) → ◌≡◌ {A = Option X} None (Some x) → ⊥
 none_some x is = cc
@@ -79,51 +81,70 @@ data_kind : (way : Way) (k : EpKind) → IsDataWay way → IsKindOf way k → is
 data_kind ways.Ctl k data_way kind = absurd data_way
 data_kind _ k data_way kind = ap is_control kind
 
-left_before : (d : DriverContent) (number : ℕ) (x : Endpoint) (q : Asked) (h : Holding) (dummy : ℕ) (notes : List QtdNote) → slice_get d.endpoints number ≡ Some x → (i : ℕ) → has_left (accepted_transfer d number x q h dummy notes).driver i ≡ true → has_left d i ≡ true
-left_before d number x q h dummy notes here i on =
+left_before : (sides : Sides) (d : DriverContent) (number : ℕ) (x : Endpoint) (q : Asked) (h : Holding) (dummy : ℕ) (notes : List QtdNote)
+    → slice_get d.endpoints number ≡ Some x → (i : ℕ) → has_left sides (accepted_transfer d number x q h dummy notes).driver i ≡ true
+    → has_left sides d i ≡ true
+left_before sides d number x q h dummy notes here i on =
     let end : Endpoint = with_queued x dummy (length d.transfers) in
     let taken : DriverContent = (accepted_transfer d number x q h dummy notes).driver in
-    ⊎_elim {C = has_left d i ≡ true}
+    ⊎_elim {C = has_left sides d i ≡ true}
     (λ (same : i ≡ number).
-    subst (λ (j : ℕ). has_left d j ≡ true) (sym same)
-    (ap (left_with d number) here ∙ sym (ap (left_with taken number) (set_here d.endpoints number x end here)) ∙ subst (λ (j : ℕ). has_left taken j ≡ true) same on))
-    (λ (differs : i ≢ number). ap (left_with d i) (sym (set_there d.endpoints number i end differs)) ∙ on) (cases_eq i number)
+    subst (λ (j : ℕ). has_left sides d j ≡ true) (sym same)
+    (ap (left_with sides d number) here ∙ sym (ap (left_with sides taken number) (set_here d.endpoints number x end here)) ∙ subst (λ (j : ℕ). has_left sides taken j ≡ true) same on))
+    (λ (differs : i ≢ number). ap (left_with sides d i) (sym (set_there d.endpoints number i end differs)) ∙ on) (cases_eq i number)
 
 -- the first of an endpoint's requests, once there is one more
-next_more : (count t : ℕ) (f : ℕ → ℕ) (o : Option ℕ) → o ≡ next_with count (f 0) → first_waiting o t ≡ next_with (suc count) (number_with count f t 0)
+next_more : (count t : ℕ) (f : ℕ → ℕ) (o : Option ℕ) → o ≡ next_with count (f 0)
+    → first_waiting o t ≡ next_with (suc count) (number_with count f t 0)
 next_more zero t f o is = ap (λ (z : Option ℕ). first_waiting z t) is
 next_more (suc count) t f o is =
     ap (λ (z : Option ℕ). first_waiting z t) is ∙ sym (ap (λ (z : Bool). Some (if z then t else f 0)) (other_number 0 (suc count) (λ same. omega (arith, same))))
 
-module _ (sides : Sides) (member : ℕ → Bool) (parts : StructureSets) (hand : Hand) (a : Asking) (v : Windows) (asks : ℕ → Request) (d : DriverContent) (m : Mem) (wire : Wired) (world : AsksIn sides member parts hand a v asks d m wire)
+module _ (sides : Sides) (member : ℕ → Bool) (parts : StructureSets) (hand : Hand) (a : Asking) (v : Windows) (asks : ℕ → Request)
+    (d : DriverContent) (m : Mem) (wire : Wired) (world : AsksIn sides member parts hand a v asks d m wire)
     (has : HasOwners d) (stands : Stands (holding d.book m)) (only : OnlyAsynchronous d) (places : AreAtPlaces (note_in d.notes) d.transfers) (o : Offered) where
-  -- ---- a get or a put
+  -- ---- a transfer of another endpoint
 
+  unasked : (z : EpDesc) → is_control z.kind ≡ false → sides.asks z ≡ false
+  unasked z off = by (sides.asks z) refl
+    where
+      by : (b : Bool) → sides.asks z ≡ b → sides.asks z ≡ false
+      by true on = absurd (false≢true (sym off ∙ sides.controls z on))
+      by false is = is
+
+  pub other_asks : (cmd : Cmd) (why : Transfers d m o) → sides.asks why.endpoint.desc ≡ false
+      → AsksIn sides member parts hand a v (asks_then d cmd asks) o.driver o.memory wire
+  other_asks cmd why off =
+      let x = why.endpoint in
+      let now : ℕ → Request = asks_then d cmd asks in
+      let differs : (n : ℕ) → have_queues a.courses n ≡ true → (a.numbers n).endpoint ≢ why.number = λ n on same.
+      false≢true (sym off ∙ world.asked n x on (ap (slice_get d.endpoints) same ∙ why.here)) in
+      let still : has_left sides d why.number ≡ false = ap (left_with sides d why.number) why.here ∙ ap (λ (z : Bool). z && not (may_meet d why.number x)) off in
+      let records = other_is_accepted d m o why cmd asks a.courses a.numbers (has_left sides d) v has stands differs still world.records in
+      let noted = notes_stay d m o why stands has in
+      let taken : DriverContent =
+      (accepted_transfer d why.number x why.asked why.holding_after (dummy_in (length why.asked.stages) (new_runs d why.holding_after)) (notes_in d why.asked x (new_runs d why.holding_after))).driver in
+      subst (λ (f : Offered). AsksIn sides member parts hand a v now f.driver f.memory wire) (sym why.is)
+      (accepted_asks sides member parts hand a v asks d m wire world why.number x why.asked why.holding_after (dummy_in (length why.asked.stages) (new_runs d why.holding_after)) (notes_in d why.asked x (new_runs d why.holding_after)) why.idle why.here places
+      (subst (λ (f : Offered). NotesStay d x.dummy (length why.asked.stages) f.driver.notes) why.is noted) a.numbers now (λ t low. asked_before d cmd asks t low)
+      (regone taken now a.courses a.numbers (has_left sides d) (has_left sides taken) v
+      (left_before sides d why.number x why.asked why.holding_after (dummy_in (length why.asked.stages) (new_runs d why.holding_after)) (notes_in d why.asked x (new_runs d why.holding_after)) why.here)
+      (subst (λ (f : Offered). AreRecords f.driver now a.courses a.numbers (has_left sides d) v) why.is records))
+      (λ i u is other. refl) (λ n. refl) (λ control. absurd (false≢true (sym off ∙ control))))
+
+  -- a get or a put
   pub moved_asks : (name : EpName) → IsAsked d m o → AsksIn sides member parts hand a v asks o.driver o.memory wire
   moved_asks name k =
       let why = k.transfers in
       let x = why.endpoint in
-      let off : is_control x.desc.kind ≡ false = data_kind x.desc.name.way x.desc.kind k.way (only.endpoints why.number x why.here).asynchronous.kind in
-      let differs : (n : ℕ) → have_queues a.courses n ≡ true → (a.numbers n).endpoint ≢ why.number = λ n on same.
-      let end = (world.records.each n on).numbered.own.endpoint in
-      let own : end.own ≡ x = same_Some end.own x (sym end.here ∙ ap (slice_get d.endpoints) same ∙ why.here) in
-      false≢true (sym off ∙ sym (ap (λ (z : Endpoint). is_control z.desc.kind) own) ∙ ap is_control end.control) in
-      let still : has_left d why.number ≡ false = ap (left_with d why.number) why.here ∙ ap (λ (z : Bool). z && not (may_meet d why.number x)) off in
-      let records = other_is_accepted d m o why (commands.Cancel name) asks a.courses a.numbers (has_left d) v has stands differs still world.records in
-      let noted = notes_stay d m o why stands has in
-      let taken : DriverContent =
-      (accepted_transfer d why.number x why.asked why.holding_after (dummy_in (length why.asked.stages) (new_runs d why.holding_after)) (notes_in d why.asked x (new_runs d why.holding_after))).driver in
-      subst (λ (f : Offered). AsksIn sides member parts hand a v asks f.driver f.memory wire) (sym why.is)
-      (accepted_asks sides member parts hand a v asks d m wire world why.number x why.asked why.holding_after (dummy_in (length why.asked.stages) (new_runs d why.holding_after)) (notes_in d why.asked x (new_runs d why.holding_after)) why.idle why.here places
-      (subst (λ (f : Offered). NotesStay d x.dummy (length why.asked.stages) f.driver.notes) why.is noted) a.numbers asks (λ t low. refl)
-      (regone taken asks a.courses a.numbers (has_left d) (has_left taken) v
-      (left_before d why.number x why.asked why.holding_after (dummy_in (length why.asked.stages) (new_runs d why.holding_after)) (notes_in d why.asked x (new_runs d why.holding_after)) why.here)
-      (subst (λ (f : Offered). AreRecords f.driver asks a.courses a.numbers (has_left d) v) why.is records))
-      (λ i u is other. refl) (λ control. absurd (false≢true (sym off ∙ control))))
+      other_asks (commands.Cancel name) why (unasked x.desc (data_kind x.desc.name.way x.desc.kind k.way (only.endpoints why.number x why.here).asynchronous.kind))
 
   -- ---- a request
 
-  module _ (name : EpName) (setup bytes : List ℕ) (lent : AreLent d) (shape : IsShaped m) (whole : IsRequest (record { setup = setup; bytes = bytes })) (are_bytes : AllByRecursion (λ b. b < 256) (setup ++ bytes)) (k : TakesRequest d m o setup bytes) where
+  module _ (name : EpName) (setup bytes : List ℕ) (lent : AreLent d) (shape : IsShaped m)
+      (whole : IsRequest (record { setup = setup; bytes = bytes })) (are_bytes : AllByRecursion (λ b. b < 256) (setup ++ bytes))
+      (k : TakesRequest d m o setup bytes)
+      (on : sides.asks k.transfers.endpoint.desc ≡ true) where
     abbrev why : Transfers d m o
     why = k.transfers
 
@@ -154,8 +175,8 @@ module _ (sides : Sides) (member : ℕ → Bool) (parts : StructureSets) (hand :
     abbrev now : ℕ → Request
     now = asks_then d (commands.Control name setup bytes) asks
 
-    is_met : IsMetControl d k.transfers.number k.transfers.endpoint
-    is_met = record { is = record { here = why.here; control = k.control }; met = stands_met d number x (only.endpoints number x why.here) why.goes_on (λ opening. none_open x.queue (sym why.idle ∙ opening)) }
+    is_met : IsMetControl sides d k.transfers.number k.transfers.endpoint
+    is_met = record { is = record { here = why.here; control = on }; met = stands_met d number x (only.endpoints number x why.here) why.goes_on (λ opening. none_open x.queue (sym why.idle ∙ opening)) }
 
     course : HasCourse sides d k.transfers.number k.transfers.endpoint c u
     course = world.each number x is_met
@@ -166,15 +187,15 @@ module _ (sides : Sides) (member : ℕ → Bool) (parts : StructureSets) (hand :
     later_here : later n ≡ more
     later_here = ap (λ (z : Bool). if z then more else a.numbers n) (eq-eqb n n refl)
 
-    still : has_left d k.transfers.number ≡ false
-    still = ap (left_with d number) why.here ∙ ap (λ (z : Bool). is_control x.desc.kind && not z) is_met.met.near ∙ ap (λ (z : Bool). z && false) k.control
+    still : has_left sides d k.transfers.number ≡ false
+    still = ap (left_with sides d number) why.here ∙ ap (λ (z : Bool). sides.asks x.desc && not z) is_met.met.near ∙ ap (λ (z : Bool). z && false) on
 
     within : (q : Queue) (b : ℕ) (l : Lines) → a.courses n ≡ Asks q b l → l.under < q.count
     within q b l is = let asking : IsAsking q b l hand parts n (control_of wire q.endpoint.addr q.endpoint.num) = subst (IsCourse control_of parts hand wire n) is (world.stand.each n) in asking.queue.within
 
-    recorded : AreRecords o.driver now a.courses later (has_left d) v
+    recorded : AreRecords o.driver now a.courses later (has_left sides d) v
     recorded =
-        request_is_accepted d m o why name setup bytes asks a.courses a.numbers (has_left d) v n
+        request_is_accepted d m o why name setup bytes asks a.courses a.numbers (has_left sides d) v n
         (record { sort = ap (λ (z : Asked). z.sort) k.asked; stages = ap (λ (z : Asked). z.stages) k.asked; owners = has; book = stands; has = course.queue; endpoint = course.number; published = count_is; here = still; within = within }) world.records
 
     lends_by : WillBeLent o k.transfers.asked.stages
@@ -185,7 +206,8 @@ module _ (sides : Sides) (member : ℕ → Bool) (parts : StructureSets) (hand :
         (subst (AllByRecursion (λ b. b < 256)) (sym (ap (λ (z : Asked). z.bytes) k.asked)) are_bytes) has lent stands shape
 
     -- once it is accepted
-    module _ (h : Holding) (dummy : ℕ) (notes : List QtdNote) (is : o ≡ accepted_transfer d k.transfers.number k.transfers.endpoint k.transfers.asked h dummy notes) where
+    module _ (h : Holding) (dummy : ℕ) (notes : List QtdNote)
+        (is : o ≡ accepted_transfer d k.transfers.number k.transfers.endpoint k.transfers.asked h dummy notes) where
       abbrev taken : Offered
       taken = accepted_transfer d k.transfers.number k.transfers.endpoint k.transfers.asked h dummy notes
 
@@ -262,7 +284,8 @@ module _ (sides : Sides) (member : ℕ → Bool) (parts : StructureSets) (hand :
           first_of_all zero b some all = absurd (omega (arith, some))
           first_of_all (suc i) b some all = all.0
 
-      own_read : (q : Option ℕ) → x.next ≡ q → (t : ℕ) (y : Transfer) → told_end x ≡ None → first_waiting q (length d.transfers) ≡ Some t → slice_get (d.transfers ++ new ∷ []) t ≡ Some y
+      own_read : (q : Option ℕ) → x.next ≡ q → (t : ℕ) (y : Transfer) → told_end x ≡ None → first_waiting q (length d.transfers) ≡ Some t
+          → slice_get (d.transfers ++ new ∷ []) t ≡ Some y
           → IsReadTo hand parts n (note_at notes) y (more.requests.requests 0)
       own_read None at t y going first there =
           let top : length d.transfers ≡ t = same_Some (length d.transfers) t first in
@@ -284,7 +307,8 @@ module _ (sides : Sides) (member : ℕ → Bool) (parts : StructureSets) (hand :
           subst (IsReadTo hand parts n (note_at notes) y) (sym (ap (λ (z : Bool). if z then r else u.requests.requests 0) (other_number 0 u.requests.count (λ none. let few = some.0 in omega (arith, none, few)))))
           (read_first sides member parts hand a v asks d m wire world number x why.asked h dummy notes why.idle why.here places noted later now asked_old number t x y is_met going (at ∙ ap Some same) there)
 
-      own_telling : x.cancelled ≡ false → HasTelling (accepted_transfer d k.transfers.number k.transfers.endpoint k.transfers.asked h dummy notes).driver now k.transfers.number (with_queued k.transfers.endpoint dummy (length d.transfers)) sides.whole v more
+      own_telling : x.cancelled ≡ false
+          → HasTelling (accepted_transfer d k.transfers.number k.transfers.endpoint k.transfers.asked h dummy notes).driver now k.transfers.number (with_queued k.transfers.endpoint dummy (length d.transfers)) sides.whole v more
       own_telling kept =
           let f = world.telling number x is_met kept in
           record {
@@ -320,17 +344,25 @@ module _ (sides : Sides) (member : ℕ → Bool) (parts : StructureSets) (hand :
         counted = own_counted;
       }
 
-      others_same : (i : ℕ) (w : Endpoint) → IsMetControl d i w → i ≢ k.transfers.number → later (32 * w.queue) ≡ a.numbers (32 * w.queue)
+      others_same : (i : ℕ) (w : Endpoint) → IsMetControl sides d i w → i ≢ k.transfers.number
+          → later (32 * w.queue) ≡ a.numbers (32 * w.queue)
       others_same i w met differs =
           ap (λ (z : Bool). if z then more else a.numbers (32 * w.queue))
           (other_number (32 * w.queue) n (λ same. differs (sym (world.each i w met).number ∙ ap (λ (j : ℕ). (a.numbers j).endpoint) same ∙ course.number)))
+
+      fields : (j : ℕ) → (later j).endpoint ≡ (a.numbers j).endpoint
+      fields j = by (j == n) refl
+        where
+          by : (b : Bool) → j == n ≡ b → (if b then more else a.numbers j).endpoint ≡ (a.numbers j).endpoint
+          by true is = ap (λ (i : ℕ). (a.numbers i).endpoint) (sym (eqb-true j n is))
+          by false is = refl
 
       asks_more : AsksIn sides member parts hand (record { courses = a.courses; numbers = later }) v now (accepted_transfer d k.transfers.number k.transfers.endpoint k.transfers.asked h dummy notes).driver
           (accepted_transfer d k.transfers.number k.transfers.endpoint k.transfers.asked h dummy notes).memory wire
       asks_more =
           accepted_asks sides member parts hand a v asks d m wire world number x why.asked h dummy notes why.idle why.here places noted later now asked_old
-          (regone taken.driver now a.courses later (has_left d) (has_left taken.driver) v (left_before d number x why.asked h dummy notes why.here) (subst (λ (f : Offered). AreRecords f.driver now a.courses later (has_left d) v) is recorded))
-          others_same (λ control. own_asks)
+          (regone taken.driver now a.courses later (has_left sides d) (has_left sides taken.driver) v (left_before sides d number x why.asked h dummy notes why.here) (subst (λ (f : Offered). AreRecords f.driver now a.courses later (has_left sides d) v) is recorded))
+          others_same fields (λ control. own_asks)
 
     pub requested_asks : AsksIn sides member parts hand (record { courses = a.courses; numbers = later }) v now o.driver o.memory wire
     requested_asks =

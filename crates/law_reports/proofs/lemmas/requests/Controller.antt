@@ -11,12 +11,11 @@ use Rattle.bus_wire.specs.Bus.{Fixed}
 use Rattle.claims_driver.specs.Owners.{runs_of_transfer, runs_of_endpoint}
 use Rattle.hc_core.specs.Controller.{Content}
 use Rattle.drv_table.specs.declared.content.Command.{Command}
-use Rattle.drv_table.specs.declared.content.Command.TheVariants as unfinished
 use Rattle.drv_table.specs.declared.content.Endpoint.{Endpoint as DriverEndpoint}
 use Rattle.drv_table.specs.declared.content.Transfer.{Transfer}
 use Rattle.drv_table.specs.DriverContent.{DriverContent}
 use Rattle.drv_table.specs.Harvests.{note_at}
-use Rattle.drv_table.specs.Words.{is_control, head_block, opening_head}
+use Rattle.drv_table.specs.Words.{head_block, opening_head}
 use Rattle.claims_base.specs.Controller.{opening_base, Base}
 use Rattle.law_driver_ring.proofs.Stays.{written_stays}
 use Rattle.law_driver_ring.specs.fed_queues.Places.{IsMet}
@@ -48,7 +47,7 @@ use Rattle.law_world.specs.steps.Streaming.{Streams, Standing}
 use Rattle.law_world.proofs.lemmas.steps.StreamTurning.{world_has_row}
 use Rattle.law_world.proofs.lemmas.steps.lemmas.world_bytes.Hearing.{a_bus_of_bytes_is_heard_as_bytes}
 use Rattle.claims_world.specs.Requests.{wired, Windows, numbers_of, after_event, opens, is_opening}
-use Rattle.law_reports.specs.requests.Courses.{Course, NoQueue, Asks, Rests, has_queue, queue_in, tail_in, IsCourse}
+use Rattle.law_reports.specs.requests.Courses.{Course, NoQueue, Asks, Rests, has_queue, queue_in, tail_in, IsCourse, have_queues}
 use Rattle.law_reports.specs.requests.Coming.{IsComing}
 use Rattle.law_reports.specs.requests.QueueEvents.{course_after, courses_after, CoursesGoOn}
 use Rattle.law_reports.proofs.lemmas.requests.QueueEvents.{event_keeps, event_leaves}
@@ -64,19 +63,24 @@ use Rattle.law_world.proofs.lemmas.streams.Beside.{beside, after_event as standi
 use Rattle.law_reports.specs.requests.Asking.{Sides, Asking, has_left, left_with, HasCourse, IsWritten, IsHeldRequest, IsPublishingAt, IsPublishingBy, IsReadTo, HasTelling, IsCounted, IsControlOf, IsMetControl, IsAskingWorld}
 use Rattle.law_reports.specs.requests.AskingLaws.{ControllerKeepsAsking}
 use Rattle.law_reports.proofs.lemmas.requests.Has.{asking_of}
-use Rattle.law_reports.proofs.lemmas.requests.Names.{left_is, not_met, one_of, has_device}
+use Rattle.law_reports.proofs.lemmas.requests.Names.{left_is, not_met, has_device}
 use Rattle.law_reports.specs.requests.Missed.{NoneMissed, MissesNone}
-use Rattle.law_reports.proofs.lemmas.requests.Missed.{walk_misses_none}
+use Rattle.law_reports.proofs.lemmas.requests.Missed.{walk_misses_none, narrow_unmissed, narrow_misses}
+use Rattle.law_reports.specs.requests.Footing.{IsFooting}
+use Rattle.law_reports.proofs.lemmas.requests.Footing.{footing}
+use Rattle.drv_table.specs.declared.content.Command.TheVariants as unfinished
 
 -- ---- queues whose windows go on
 
-course_still : (g : Sides) (d : DriverContent) (e : ℕ) (x : DriverEndpoint) (a : Numbers) (step : Option Step) (n : ℕ) (c : Course) → HasCourse g d e x c a → HasCourse g d e x (course_after step n c) a
+course_still : (g : Sides) (d : DriverContent) (e : ℕ) (x : DriverEndpoint) (a : Numbers) (step : Option Step) (n : ℕ) (c : Course)
+    → HasCourse g d e x c a → HasCourse g d e x (course_after step n c) a
 course_still g d e x a step n NoQueue h = absurd (false≢true h.queue)
 course_still g d e x a step n _ h =
     record { queue = refl; endpoint = h.endpoint; number = h.number; tail = h.tail; count = h.count; newest = h.newest; next = h.next; ended = h.ended; owed = h.owed }
 
 -- its device is on the bus
-course_device : (fixed : Fixed) (w : World) (parts : StructureSets) (hand : Hand) (n : ℕ) (c : Course) → has_queue c ≡ true → IsCourse control_of parts hand (wired fixed w) n c
+course_device : (fixed : Fixed) (w : World) (parts : StructureSets) (hand : Hand) (n : ℕ) (c : Course) → has_queue c ≡ true
+    → IsCourse control_of parts hand (wired fixed w) n c
     → (z : Device) × (control_of (wired fixed w) (queue_in c).endpoint.addr (queue_in c).endpoint.num ≡ Some z)
 course_device fixed w parts hand n NoQueue has k = absurd (false≢true has)
 course_device fixed w parts hand n (Asks q b l) has k = (_, k.queue.window.device)
@@ -85,7 +89,8 @@ course_device fixed w parts hand n (Rests q b c) has k = (_, k.rest.device)
 -- ---- a qTD that is done
 
 module _ {W : Type 0} (begins : W → ℕ → Bool → W → Type 0) (transacts : W → Ask → List ℕ → Reply → W → Type 0) (base : Base) (member : ℕ → Bool) (parts : StructureSets) (hand : Hand) (c : Content) (wire after : W) (now : StructureSets) (later : Hand) (controlled : IsControlled base member parts hand c) where
-  done_still : (n b i : ℕ) (xs : List ℕ) → ControlEffect begins transacts parts hand wire after now later → KeepsEach parts now → IsDone hand parts n b i xs → IsDone later now n b i xs
+  done_still : (n b i : ℕ) (xs : List ℕ) → ControlEffect begins transacts parts hand wire after now later → KeepsEach parts now
+      → IsDone hand parts n b i xs → IsDone later now n b i xs
   done_still n b i xs (a_microframe m) keeps k =
       subst (λ (h : Hand). IsDone h now n b i xs) (sym m.hand_stays) (subst (λ (ps : StructureSets). IsDone hand ps n b i xs) (sym m.parts_stay) k)
   done_still n b i xs (a_step k) keeps done =
@@ -94,14 +99,17 @@ module _ {W : Type 0} (begins : W → ℕ → Bool → W → Type 0) (transacts 
 
 -- ---- no microframe is missed
 
-event_unmissed : {W : Type 0} (begins : W → ℕ → Bool → W → Type 0) (transacts : W → Ask → List ℕ → Reply → W → Type 0) (parts : StructureSets) (hand : Hand) (wire after : W) (now : StructureSets) (later : Hand)
-    → ControlEffect begins transacts parts hand wire after now later → NoneMissed parts → MissesNone hand → NoneMissed now × MissesNone later
-event_unmissed begins transacts parts hand wire after now later (a_microframe m) none had = (subst NoneMissed (sym m.parts_stay) none, subst MissesNone (sym m.hand_stays) had)
-event_unmissed begins transacts parts hand wire after now later (a_step k) none had = walk_misses_none transacts parts hand wire after now later k.kind k.effect none had
+event_unmissed : {W : Type 0} (begins : W → ℕ → Bool → W → Type 0) (transacts : W → Ask → List ℕ → Reply → W → Type 0) (asked : ℕ → Bool) (parts : StructureSets) (hand : Hand) (wire after : W) (now : StructureSets) (later : Hand)
+    → ControlEffect begins transacts parts hand wire after now later → NoneMissed asked parts → MissesNone asked hand
+    → NoneMissed asked now × MissesNone asked later
+event_unmissed begins transacts asked parts hand wire after now later (a_microframe m) none had = (subst (NoneMissed asked) (sym m.parts_stay) none, subst (MissesNone asked) (sym m.hand_stays) had)
+event_unmissed begins transacts asked parts hand wire after now later (a_step k) none had = walk_misses_none transacts asked parts hand wire after now later k.kind k.effect none had
 
 -- ---- the event
 
-module _ (g : Sides) (fixed : Fixed) (takes : ℕ → ℕ → Bool) (member : ℕ → Bool) (x : Streams) (s : Standing) (a : Asking) (v : Windows) (asks : ℕ → Request) (w : World) (k : IsWhole fixed takes member x s w) (ring : x.endpoint (32 * head_block) ≡ endpoint_of opening_head) (q : IsAskingWorld g fixed member s a v asks w) where
+module _ (g : Sides) (fixed : Fixed) (takes : ℕ → ℕ → Bool) (member : ℕ → Bool) (x : Streams) (s : Standing) (a : Asking) (v : Windows)
+    (asks : ℕ → Request) (w : World) (k : IsWhole fixed takes member x s w) (ring : x.endpoint (32 * head_block) ≡ endpoint_of opening_head)
+    (q : IsAskingWorld g fixed member s a v asks w) where
   abbrev new : World
   new = controller_next fixed w
 
@@ -122,6 +130,9 @@ module _ (g : Sides) (fixed : Fixed) (takes : ℕ → ℕ → Bool) (member : �
       event_keeps begins_by transacts_by control_of opening_base member a.courses s.parts s.hand (controller_parts w) (wired fixed w) (wired fixed new) event.now event.later event.effect
       a_scripted_bus_answers_by_stages keeps_devices controlled q.stand
 
+  f : IsFooting member x s w
+  f = footing fixed takes member x s w k ring
+
   abbrev then : Asking
   then = record { courses = courses_after goes.step a.courses; numbers = a.numbers }
 
@@ -136,27 +147,29 @@ module _ (g : Sides) (fixed : Fixed) (takes : ℕ → ℕ → Bool) (member : �
       → control_of (wired fixed w) addr num ≡ Some c → control_of (wired fixed (controller_next fixed w)) addr num ≡ Some c
   device_stays addr num c least none is =
       event_leaves begins_by transacts_by control_of opening_base member s.parts s.hand (controller_parts w) (wired fixed w) (wired fixed new) event.now event.later event.effect addr num c
-      a_scripted_bus_answers_by_stages keeps_devices controlled (λ n own met has address number. not_met fixed takes member x s w k ring addr num least none n own met has address number) is
+      a_scripted_bus_answers_by_stages keeps_devices controlled (λ n own met has address number. not_met member x s w f addr num least none n own met has address number) is
 
-  left_stays : (e : ℕ) (z : DriverEndpoint) → has_left w.driver e ≡ true → slice_get w.driver.endpoints e ≡ Some z → IsLeftAlone fixed w (controller_next fixed w) z
+  left_stays : (e : ℕ) (z : DriverEndpoint) → has_left g w.driver e ≡ true → slice_get w.driver.endpoints e ≡ Some z
+      → IsLeftAlone fixed w (controller_next fixed w) z
   left_stays e z left here =
-      let is = left_is w.driver e z here left in
-      let its : IsControlOf w.driver e z = record { here = here; control = is.0 } in
-      let device = has_device fixed takes member x s w k ring g a v asks q e z its in
+      let is = left_is g w.driver e z here left in
+      let its : IsControlOf g w.driver e z = record { here = here; control = is.0 } in
+      let device = has_device member x s w f g fixed a v asks q e z its in
       device_stays z.desc.name.addr z.desc.name.num device.0 (q.given e z its).addressed
-      (λ f y there met address number.
-      let at : e ≡ f = one_of fixed takes member x s w k ring e f z y here is.0 there address number in
+      (λ i y there met address number.
+      let at : e ≡ i = f.apart e i z y here (g.controls z.desc is.0) there address number in
       let same : y ≡ z = same_Some y z (sym there ∙ ap (λ (i : ℕ). slice_get w.driver.endpoints i) (sym at) ∙ here) in
       true≢false (sym met.near ∙ ap (λ (i : ℕ). may_meet w.driver i y) (sym at) ∙ ap (λ (u : DriverEndpoint). may_meet w.driver e u) same ∙ is.1))
       device.1
       ∙ sym device.1
 
-  closed : ClosedStay w.driver a.courses a.numbers (has_left w.driver) v (after_event fixed w v)
-  closed = event_keeps_closed fixed opening_base member a.courses a.numbers (has_left w.driver) s.parts s.hand asks w v event goes k.feeding.working.streaming.on controlled q.stand owned left_stays q.records
+  closed : ClosedStay w.driver a.courses a.numbers (has_left g w.driver) v (after_event fixed w v)
+  closed = event_keeps_closed fixed opening_base member a.courses a.numbers (has_left g w.driver) s.parts s.hand asks w v event goes k.feeding.working.streaming.on controlled q.stand owned left_stays q.records
 
   -- ---- one endpoint
 
-  abbrev has_its : (e : ℕ) (z : DriverEndpoint) → IsMetControl w.driver e z → HasCourse g w.driver e z (a.courses (32 * z.queue)) (a.numbers (32 * z.queue))
+  abbrev has_its : (e : ℕ) (z : DriverEndpoint) → IsMetControl g w.driver e z
+      → HasCourse g w.driver e z (a.courses (32 * z.queue)) (a.numbers (32 * z.queue))
   has_its e z is = q.each e z is
 
   -- the request that is being published
@@ -165,7 +178,8 @@ module _ (g : Sides) (fixed : Fixed) (takes : ℕ → ℕ → Bool) (member : �
       memory_leaves begins_by transacts_by opening_base member s.parts s.hand (controller_parts w) (wired fixed w) (controller_parts new) (wired fixed new) controlled k.feeding.working.streaming.on
       (a_bus_of_bytes_is_heard_as_bytes fixed w k.bytes (wired fixed new)) (world_has_row fixed w)
 
-  held_then : (b : ℕ) (words : List ℕ) (r : Request) → IsHeldRequest w.driver w.memory b words r → IsHeldRequest w.driver (controller_next fixed w).memory b words r
+  held_then : (b : ℕ) (words : List ℕ) (r : Request) → IsHeldRequest w.driver w.memory b words r
+      → IsHeldRequest w.driver (controller_next fixed w).memory b words r
   held_then b words r h =
       let sound = k.feeding.working.place.sound in
       let l = h.lends in
@@ -197,14 +211,15 @@ module _ (g : Sides) (fixed : Fixed) (takes : ℕ → ℕ → Bool) (member : �
             (subst (λ (c : ℕ). RequestIsHeld w.memory w.driver.notes c r) (sym l.first) h.held));
       }
 
-  module _ (e : ℕ) (z : DriverEndpoint) (is : IsMetControl w.driver e z) where
+  module _ (e : ℕ) (z : DriverEndpoint) (is : IsMetControl g w.driver e z) where
     abbrev n : ℕ
     n = 32 * z.queue
 
     abbrev its : HasCourse g w.driver e z (a.courses (32 * z.queue)) (a.numbers (32 * z.queue))
     its = q.each e z is
 
-    coming_then : (c : Course) → a.courses (32 * z.queue) ≡ c → (words : List ℕ) → IsWritten w.driver z (s.parts (32 * z.queue)) c (a.numbers (32 * z.queue)) words
+    coming_then : (c : Course) → a.courses (32 * z.queue) ≡ c → (words : List ℕ)
+        → IsWritten w.driver z (s.parts (32 * z.queue)) c (a.numbers (32 * z.queue)) words
         → IsWritten w.driver z (event.now (32 * z.queue)) c (a.numbers (32 * z.queue)) words
     coming_then c same words h = record {
       setup = h.setup;
@@ -221,7 +236,8 @@ module _ (g : Sides) (fixed : Fixed) (takes : ℕ → ℕ → Bool) (member : �
           (sym same) h.coming));
     }
 
-    published_then : (c : Course) → a.courses (32 * z.queue) ≡ c → (b : ℕ) (words : List ℕ) → IsPublishingAt w.driver w.memory z (s.parts (32 * z.queue)) c (a.numbers (32 * z.queue)) b words
+    published_then : (c : Course) → a.courses (32 * z.queue) ≡ c → (b : ℕ) (words : List ℕ)
+        → IsPublishingAt w.driver w.memory z (s.parts (32 * z.queue)) c (a.numbers (32 * z.queue)) b words
         → IsPublishingAt w.driver (controller_next fixed w).memory z (event.now (32 * z.queue)) (course_after goes.step (32 * z.queue) c) (a.numbers (32 * z.queue)) b words
     published_then NoQueue same b words h = absurd (false≢true (sym (ap has_queue same) ∙ its.queue))
     published_then (Asks v b l) same at words h = record {
@@ -235,13 +251,15 @@ module _ (g : Sides) (fixed : Fixed) (takes : ℕ → ℕ → Bool) (member : �
       written = λ some. let y = coming_then (Rests v b l) same words (h.written some) in record { setup = y.setup; words_are = y.words_are; range = y.range; coming = y.coming };
     }
 
-    publishing_by : (o : Option Command) → IsPublishingBy w.driver w.memory z (s.parts (32 * z.queue)) (a.courses (32 * z.queue)) (a.numbers (32 * z.queue)) o
+    publishing_by : (o : Option Command)
+        → IsPublishingBy w.driver w.memory z (s.parts (32 * z.queue)) (a.courses (32 * z.queue)) (a.numbers (32 * z.queue)) o
         → IsPublishingBy w.driver (controller_next fixed w).memory z (event.now (32 * z.queue)) (course_after goes.step (32 * z.queue) (a.courses (32 * z.queue))) (a.numbers (32 * z.queue)) o
     publishing_by (Some (unfinished.Publish b words)) h = published_then (a.courses (32 * z.queue)) refl b words h
     publishing_by _ h = tt
 
     -- what was harvested
-    read_then : (t : ℕ) (y : Transfer) (r : Request) → IsReadTo s.hand s.parts (32 * z.queue) (note_at w.driver.notes) y r → IsReadTo event.later event.now (32 * z.queue) (note_at w.driver.notes) y r
+    read_then : (t : ℕ) (y : Transfer) (r : Request) → IsReadTo s.hand s.parts (32 * z.queue) (note_at w.driver.notes) y r
+        → IsReadTo event.later event.now (32 * z.queue) (note_at w.driver.notes) y r
     read_then t y r h = record {
       setup = h.setup;
       data_at = λ some last. let k = h.data_at some last in record {
@@ -253,7 +271,8 @@ module _ (g : Sides) (fixed : Fixed) (takes : ℕ → ℕ → Bool) (member : �
     }
 
     -- what is told
-    telling_then : HasTelling w.driver asks e z g.whole v (a.numbers (32 * z.queue)) → HasTelling w.driver asks e z g.whole (after_event fixed w v) (a.numbers (32 * z.queue))
+    telling_then : HasTelling w.driver asks e z g.whole v (a.numbers (32 * z.queue))
+        → HasTelling w.driver asks e z g.whole (after_event fixed w v) (a.numbers (32 * z.queue))
     telling_then h = record {
       reported = h.reported;
       untold = h.untold;
@@ -279,24 +298,26 @@ module _ (g : Sides) (fixed : Fixed) (takes : ℕ → ℕ → Bool) (member : �
           device = here.0;
           is = sym (named new) ∙ side;
           acted = subst (λ (i : ℕ). here.0.stages.acted ≡ counted_all later (numbers_of w.driver i) 0) its.number
-              (event_keeps_counts fixed opening_base member a.courses a.numbers (has_left w.driver) s.parts s.hand asks w v event goes k.feeding.working.streaming.on controlled q.stand owned left_stays q.records n its.queue
+              (event_keeps_counts fixed opening_base member a.courses a.numbers (has_left g w.driver) s.parts s.hand asks w v event goes k.feeding.working.streaming.on controlled q.stand owned left_stays q.records n its.queue
               (λ c at. subst (λ (u : Device). u.stages.acted ≡ counted_all v (numbers_of w.driver (a.numbers n).endpoint) 0) (same_Some h.device c (sym h.is ∙ sym (named w) ∙ at))
               (h.acted ∙ ap (λ (i : ℕ). counted_all v (numbers_of w.driver i) 0) (sym its.number)))
               here.0 side);
         }
 
   -- .. that the walk can't meet
-  counted_left : (e : ℕ) (z : DriverEndpoint) (is : IsControlOf w.driver e z) → may_meet w.driver e z ≡ false → IsCounted fixed w v e z → IsCounted fixed (controller_next fixed w) (after_event fixed w v) e z
+  counted_left : (e : ℕ) (z : DriverEndpoint) (is : IsControlOf g w.driver e z) → may_meet w.driver e z ≡ false → IsCounted fixed w v e z
+      → IsCounted fixed (controller_next fixed w) (after_event fixed w v) e z
   counted_left e z is off h =
-      let left : has_left w.driver e ≡ true =
-      ap (λ (o : Option DriverEndpoint). left_with w.driver e o) is.here ∙ and_from (is_control z.desc.kind) (not (may_meet w.driver e z)) is.control (ap not off) in
+      let left : has_left g w.driver e ≡ true =
+      ap (λ (o : Option DriverEndpoint). left_with g w.driver e o) is.here ∙ and_from (g.asks z.desc) (not (may_meet w.driver e z)) is.control (ap not off) in
       record {
         device = h.device;
         is = left_stays e z left is.here ∙ h.is;
         acted = h.acted ∙ sym (counted_same v later (numbers_of w.driver e) 0 (closed.left e left));
       }
 
-  counts_then : (e : ℕ) (z : DriverEndpoint) → IsControlOf w.driver e z → is_opening w.driver z ≡ false → IsCounted fixed (controller_next fixed w) (after_event fixed w v) e z
+  counts_then : (e : ℕ) (z : DriverEndpoint) → IsControlOf g w.driver e z → is_opening w.driver z ≡ false
+      → IsCounted fixed (controller_next fixed w) (after_event fixed w v) e z
   counts_then e z is off = by (may_meet w.driver e z) refl
     where
       by : (b : Bool) → may_meet w.driver e z ≡ b → IsCounted fixed (controller_next fixed w) (after_event fixed w v) e z
@@ -311,14 +332,18 @@ module _ (g : Sides) (fixed : Fixed) (takes : ℕ → ℕ → Bool) (member : �
             };
           }) (q.counts e z is off)
 
-  unmissed_then : NoneMissed (beside fixed takes member x s w k).event.event.now × MissesNone (beside fixed takes member x s w k).event.event.later
-  unmissed_then = event_unmissed begins_by transacts_by s.parts s.hand (wired fixed w) (wired fixed new) event.now event.later event.effect q.unmissed.structures q.unmissed.in_hand
+  had_queues : (n : ℕ) → have_queues (courses_after goes.step a.courses) n ≡ true → have_queues a.courses n ≡ true
+  had_queues n has = sym (has_still goes.step n (a.courses n)) ∙ has
+
+  unmissed_then : NoneMissed (have_queues a.courses) (beside fixed takes member x s w k).event.event.now × MissesNone (have_queues a.courses) (beside fixed takes member x s w k).event.event.later
+  unmissed_then = event_unmissed begins_by transacts_by (have_queues a.courses) s.parts s.hand (wired fixed w) (wired fixed new) event.now event.later event.effect q.unmissed.structures q.unmissed.in_hand
 
   pub asking_beside : IsAskingWorld g fixed member (standing_after fixed takes member x s w k) (record { courses = courses_after goes.step a.courses; numbers = a.numbers }) (after_event fixed w v) asks (controller_next fixed w)
   asking_beside = record {
     stand = goes.stand;
-    records = event_keeps_records fixed opening_base member a.courses a.numbers (has_left w.driver) s.parts s.hand asks w v event goes k.feeding.working.streaming.on controlled q.stand owned left_stays q.records;
+    records = event_keeps_records fixed opening_base member a.courses a.numbers (has_left g w.driver) s.parts s.hand asks w v event goes k.feeding.working.streaming.on controlled q.stand owned left_stays q.records;
     each = λ e z is. course_still g w.driver e z (a.numbers (32 * z.queue)) goes.step (32 * z.queue) (a.courses (32 * z.queue)) (q.each e z is);
+    asked = λ n z has there. q.asked n z (had_queues n has) there;
     publishing = λ e z is on. publishing_by e z is w.driver.command (q.publishing e z is on);
     read = λ e t z y is going next here. read_then e z is t y _ (q.read e t z y is going next here);
     telling = λ e z is kept. telling_then e z is (q.telling e z is kept);
@@ -327,7 +352,11 @@ module _ (g : Sides) (fixed : Fixed) (takes : ℕ → ℕ → Bool) (member : �
     unopened = λ addr num c least none first.
         device_stays addr num c least (λ e z here met address number. met.there.linked (opened_is w.driver.command z.queue (and_parts (opens w.driver.command z.queue) (not z.gone) (none e z here address number)).0)) (q.unopened addr num c least none first);
     untold = q.untold;
-    unmissed = record { structures = unmissed_then.0; in_hand = unmissed_then.1; first = q.unmissed.first };
+    unmissed = record {
+      structures = narrow_unmissed (have_queues a.courses) (have_queues (courses_after goes.step a.courses)) event.now had_queues unmissed_then.0;
+      in_hand = narrow_misses (have_queues a.courses) (have_queues (courses_after goes.step a.courses)) event.later had_queues unmissed_then.1;
+      first = q.unmissed.first;
+    };
   }
 
 pub controller_keeps_asking : ControllerKeepsAsking

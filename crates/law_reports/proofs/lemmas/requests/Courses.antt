@@ -1,6 +1,6 @@
 -- The queues of a ring as the laws of requests have them, and back.
-use Rattle.std.proofs.Common.{◌≡◌, ◌≢◌, ℕ, Bool, true, false, Option, Some, ap, refl, sym, ◌∙◌}
-use Rattle.std.proofs.lemmas.Bool.{false≢true}
+use Rattle.std.proofs.Common.{◌≡◌, ◌≢◌, ℕ, Bool, true, false, Option, Some, ap, refl, sym, ◌∙◌, ◌==◌, if◌then◌else◌}
+use Rattle.std.proofs.lemmas.Bool.{false≢true, eqb-true}
 use Rattle.law_structures.specs.lent_structures.Structures.{StructureSets, QueueHead}
 use Rattle.claims_report.specs.ControlSides.{Device}
 use Rattle.law_devices.specs.request_calls.Stages.{IsEndpoint}
@@ -9,7 +9,7 @@ use Rattle.law_ring.specs.Hand.{Hand}
 use Rattle.law_ring.specs.Told.{endpoint_of}
 use Rattle.law_devices.specs.ring_requests.Windows.{Queue, IsQueue, AreSent, IsElsewhere, AreWindows}
 use Rattle.law_devices.specs.ring_requests.Resting.{IsOtherEndpoint, IsAlone}
-use Rattle.law_reports.specs.requests.Courses.{Course, NoQueue, Asks, Rests, has_queue, is_asking, queue_in, tail_in, lines_in, AreInLine, IsCourse, queues, have_queues, are_asking, all_lines, CoursesStand}
+use Rattle.law_reports.specs.requests.Courses.{Course, NoQueue, Asks, Rests, has_queue, is_asking, queue_in, tail_in, lines_in, AreInLine, IsCourse, queues, have_queues, are_asking, all_lines, CoursesStand, with_course}
 
 -- ---- what has a queue
 
@@ -32,7 +32,8 @@ module _ {W : Type 0} (device : W → ℕ → ℕ → Option Device) (parts : St
   line_of NoQueue on k = absurd (false≢true on)
   line_of _ on k = k.line
 
-  pub asked_of : (c : Course) → is_asking c ≡ true → IsCourse device parts hand wire n c → IsQueue (queue_in c) (lines_in c) hand parts n (device wire (queue_in c).endpoint.addr (queue_in c).endpoint.num)
+  pub asked_of : (c : Course) → is_asking c ≡ true → IsCourse device parts hand wire n c
+      → IsQueue (queue_in c) (lines_in c) hand parts n (device wire (queue_in c).endpoint.addr (queue_in c).endpoint.num)
   asked_of (Asks v b l) on k = k.queue
   asked_of _ on k = absurd (false≢true on)
 
@@ -49,7 +50,8 @@ module _ {W : Type 0} (device : W → ℕ → ℕ → Option Device) (member : �
   asking_has n on = asks_has (courses n) on
 
   -- no other queue head has its endpoint
-  alone_by : (n : ℕ) → have_queues courses n ≡ true → (k : ℕ) → member k ≡ true → k ≢ n → (b : Bool) → have_queues courses k ≡ b → IsOtherEndpoint (queues courses n).endpoint parts k
+  alone_by : (n : ℕ) → have_queues courses n ≡ true → (k : ℕ) → member k ≡ true → k ≢ n → (b : Bool) → have_queues courses k ≡ b
+      → IsOtherEndpoint (queues courses n).endpoint parts k
   alone_by n on k met differs true one =
       let h : HasHead parts k (queues courses k) = head_at k one in
       record {
@@ -75,7 +77,8 @@ module _ {W : Type 0} (device : W → ℕ → ℕ → Option Device) (member : �
     apart = λ n k on one. stand.apart n k (asking_has n on) (asking_has k one);
   }
 
-  elsewhere_by : (n : ℕ) → member n ≡ true → are_asking courses n ≡ false → (b : Bool) → have_queues courses n ≡ b → IsElsewhere (are_asking courses) (queues courses) parts n
+  elsewhere_by : (n : ℕ) → member n ≡ true → are_asking courses n ≡ false → (b : Bool) → have_queues courses n ≡ b
+      → IsElsewhere (are_asking courses) (queues courses) parts n
   elsewhere_by n met off true on =
       let h : HasHead parts n (queues courses n) = head_at n on in
       record {
@@ -92,3 +95,15 @@ module _ {W : Type 0} (device : W → ℕ → ℕ → Option Device) (member : �
     each = λ n on. asked_of device parts hand wire n (courses n) on (stand.each n);
     others = λ n met off. elsewhere_by n met off (have_queues courses n) refl;
   }
+
+-- ---- other queues
+
+has_at : (courses : ℕ → Course) (n k : ℕ) (c : Course) → have_queues courses n ≡ true → (b : Bool) → k == n ≡ b
+    → has_queue (if b then c else courses k) ≡ true → have_queues courses k ≡ true
+has_at courses n k c has true at on = ap (have_queues courses) (eqb-true k n at) ∙ has
+has_at courses n k c has false at on = on
+
+-- where one of them is another one, the same queue heads have them
+pub has_with : (courses : ℕ → Course) (n : ℕ) (c : Course) → have_queues courses n ≡ true → (k : ℕ)
+    → have_queues (with_course courses n c) k ≡ true → have_queues courses k ≡ true
+has_with courses n c has k on = has_at courses n k c has (k == n) refl on

@@ -10,7 +10,6 @@ use Rattle.law_reports.proofs.Common.{less_one}
 use Rattle.law_driver.proofs.Common.{waits_is}
 use Rattle.usb_base.specs.declared.endpoints.EpName.{EpName}
 use Rattle.usb_base.specs.declared.endpoints.EndCause.TheVariants as causes
-use Rattle.usb_base.specs.declared.packets.EpKind.TheVariants as kinds
 use Rattle.usb_base.specs.declared.reports.Report.{Report}
 use Rattle.usb_base.specs.declared.reports.What.{What}
 use Rattle.usb_base.specs.declared.reports.What.TheVariants as lines
@@ -29,7 +28,7 @@ use Rattle.drv_table.specs.declared.rows.Found.{Found}
 use Rattle.drv_table.specs.declared.rows.Found.TheVariants as founds
 use Rattle.drv_table.specs.DriverContent.{DriverContent}
 use Rattle.drv_table.specs.Harvests.{note_at, token_in, done_of, moved_of, halt_of}
-use Rattle.drv_table.specs.Words.{is_control, request_stages}
+use Rattle.drv_table.specs.Words.{request_stages}
 use Rattle.drv_table.specs.Harvesting.{harvested_as, served}
 use Rattle.law_driver.specs.endpoint_lives.Lives.{told_end}
 use Rattle.law_driver.proofs.lemmas.endpoint_lives.Lives.{none_told}
@@ -75,13 +74,12 @@ use Rattle.law_reports.proofs.lemmas.requests.TransferHarvests.{done_is_ended}
 use Rattle.law_reports.proofs.lemmas.requests.Rows.{row_keeps_records}
 use Rattle.law_reports.specs.requests.Telling.{IsTelling, IsUncancelled}
 use Rattle.law_reports.proofs.lemmas.requests.Telling.{harvest_tells}
-use Rattle.law_world.specs.streams.Feeding.{IsFeeding}
 use Rattle.hc_core.specs.Controller.{walk_place}
-use Rattle.law_world.specs.streams.Whole.{IsWhole}
 use Rattle.law_reports.specs.requests.Asking.{Sides, Asking, has_left, is_next_of, is_publishing, next_with, HasCourse, HasTelling, IsMetControl, IsReadTo, IsAskingWorld}
 use Rattle.law_reports.specs.requests.Reading.{AreSilent, IsAtRequest}
 use Rattle.law_reports.specs.requests.Ended.{ReadsFirst, HarvestReadsFirst, ended_driver, RequestEnds, DoneEnds}
 use Rattle.law_reports.proofs.lemmas.requests.Reading.{found_is, read_is_moved, moved_are_all}
+use Rattle.law_reports.specs.requests.Footing.{IsFooting}
 
 -- ---- lists
 
@@ -93,11 +91,13 @@ one_line name line none = by (is_line_of name line)
     by false = refl
 
 -- a line more that isn't that of a cancel
-pub uncancelled_more : (name : EpName) (reports : List Report) (line : Report) → is_cancel line.what ≡ false → has_cancel (lines_in name reports) ≡ false → has_cancel (lines_in name (reports ++ line ∷ [])) ≡ false
+pub uncancelled_more : (name : EpName) (reports : List Report) (line : Report) → is_cancel line.what ≡ false
+    → has_cancel (lines_in name reports) ≡ false → has_cancel (lines_in name (reports ++ line ∷ [])) ≡ false
 uncancelled_more name [] line none before = one_line name line none
 uncancelled_more name (r ∷ rest) line none before = by (is_line_of name r) (λ is. uncancelled_more name rest line none is) before
   where
-    by : (b : Bool) → (has_cancel (lines_in name rest) ≡ false → has_cancel (lines_in name (rest ++ line ∷ [])) ≡ false) → has_cancel (if b then r ∷ lines_in name rest else lines_in name rest) ≡ false
+    by : (b : Bool) → (has_cancel (lines_in name rest) ≡ false → has_cancel (lines_in name (rest ++ line ∷ [])) ≡ false)
+        → has_cancel (if b then r ∷ lines_in name rest else lines_in name rest) ≡ false
         → has_cancel (if b then r ∷ lines_in name (rest ++ line ∷ []) else lines_in name (rest ++ line ∷ [])) ≡ false
     by true later is =
         let both = or_both (is_cancel r.what) (has_cancel (lines_in name rest)) is in
@@ -112,7 +112,8 @@ pub record IsStageRead (r : Request) (x : Places) (y : Transfer) : Type 0 where
   pub is : place_at x stage ≡ 32 * y.place
   pub last : y.left ≤ 1 → x.status ≡ 32 * y.place
 
-module _ (d : DriverContent) (t : ℕ) (r : Request) (x : Places) (y : Transfer) (k : IsLaidOut d t r x) (own : k.own ≡ y) (at : IsAtPlace (note_in d.notes) y) where
+module _ (d : DriverContent) (t : ℕ) (r : Request) (x : Places) (y : Transfer) (k : IsLaidOut d t r x) (own : k.own ≡ y)
+    (at : IsAtPlace (note_in d.notes) y) where
   index : (i : ℕ) → y.qtds - y.left ≡ i → 32 * piece_at (note_in d.notes) y.first i ≡ 32 * y.place
   index i is = sym (ap (λ (b : ℕ). 32 * b) (at.place ∙ ap (piece_at (note_in d.notes) y.first) is))
 
@@ -169,8 +170,9 @@ side_active r max _ = refl
 
 -- ---- the request that is read
 
-module _ (g : Sides) (fixed : Fixed) (takes : ℕ → ℕ → Bool) (member : ℕ → Bool) (x : Streams) (s : Standing) (a : Asking) (v : Windows) (asks : ℕ → Request) (w : World) (e t : ℕ) (found : Found)
-    (due : IsHarvestDue (driver_parts w) e t found) (control : due.endpoint.desc.kind ≡ kinds.Control) (k : IsWhole fixed takes member x s w) (silent : AreSilent w.driver) (j : IsAskingWorld g fixed member s a v asks w) where
+module _ (g : Sides) (fixed : Fixed) (member : ℕ → Bool) (x : Streams) (s : Standing) (a : Asking) (v : Windows) (asks : ℕ → Request)
+    (w : World) (e t : ℕ) (found : Found)
+    (due : IsHarvestDue (driver_parts w) e t found) (control : g.asks due.endpoint.desc ≡ true) (k : IsFooting member x s w) (silent : AreSilent w.driver) (j : IsAskingWorld g fixed member s a v asks w) where
   abbrev ep : Endpoint
   ep = due.endpoint
 
@@ -183,17 +185,14 @@ module _ (g : Sides) (fixed : Fixed) (takes : ℕ → ℕ → Bool) (member : �
   abbrev own_numbers : Numbers
   own_numbers = a.numbers (32 * due.endpoint.queue)
 
-  abbrev f : IsFeeding fixed member x s w
-  f = k.feeding
-
   no_open : (b : ℕ) → ◌≡◌ {A = Option Command} None (Some (unfinished.Open b)) → ⊥
   no_open b same = cc
 
   pub met : IsMet w.driver e due.endpoint
-  met = stands_met w.driver e due.endpoint (f.turns.asynchronous.endpoints e due.endpoint due.here) due.goes_on (λ is. no_open due.endpoint.queue (sym due.idle ∙ is))
+  met = stands_met w.driver e due.endpoint (k.turns.asynchronous.endpoints e due.endpoint due.here) due.goes_on (λ is. no_open due.endpoint.queue (sym due.idle ∙ is))
 
-  pub its : IsMetControl w.driver e due.endpoint
-  its = record { is = record { here = due.here; control = ap is_control control }; met = met }
+  pub its : IsMetControl g w.driver e due.endpoint
+  its = record { is = record { here = due.here; control = control }; met = met }
 
   pub has : HasCourse g w.driver e due.endpoint (a.courses n) own_numbers
   has = j.each e due.endpoint its
@@ -207,7 +206,8 @@ module _ (g : Sides) (fixed : Fixed) (takes : ℕ → ℕ → Bool) (member : �
   next_is : (own_numbers.number 0 ≡ t) × (0 < own_numbers.requests.count)
   next_is = by own_numbers.requests.count refl (sym due.next ∙ has.next going)
     where
-      by : (i : ℕ) → own_numbers.requests.count ≡ i → Some t ≡ next_with i (own_numbers.number 0) → (own_numbers.number 0 ≡ t) × (0 < own_numbers.requests.count)
+      by : (i : ℕ) → own_numbers.requests.count ≡ i → Some t ≡ next_with i (own_numbers.number 0)
+          → (own_numbers.number 0 ≡ t) × (0 < own_numbers.requests.count)
       by zero is none = absurd cc
       by (suc i) is some = (sym (same_Some t (own_numbers.number 0) some), omega (arith, is))
 
@@ -243,22 +243,23 @@ module _ (g : Sides) (fixed : Fixed) (takes : ℕ → ℕ → Bool) (member : �
   held = ap (λ (z : Transfer). z.released) (sym own_is) ∙ laid.held
 
   at_place : IsAtPlace (note_in w.driver.notes) y
-  at_place = f.turns.turns.places t y due.there held
+  at_place = k.turns.turns.places t y due.there held
 
   its_end : slice_get w.driver.endpoints y.endpoint ≡ Some due.endpoint
   its_end = ap (slice_get w.driver.endpoints) (waits_is e y due.waits).0 ∙ due.here
 
   pub tells : Tells w.memory s.parts
-  tells = f.working.streaming.controlled.ring.tells
+  tells = k.tells
 
   pub on : IsMember member n (s.parts n)
-  on = f.working.streaming.controlled.ring.members n (f.queues.met.each e due.endpoint due.here met)
+  on = k.members e due.endpoint due.here (g.controls due.endpoint.desc control) met
 
   owners : HasOwners w.driver
-  owners = f.working.place.sound.owners
+  owners = k.owners
 
-  pub fed_at : (i : ℕ) → i < y.qtds → IsPieceFed y.sort (s.parts n) (sized y.sort i (note_at w.driver.notes (piece_at (note_in w.driver.notes) y.first i))) (piece_at (note_in w.driver.notes) y.first i) (piece_at (note_in w.driver.notes) y.first y.qtds)
-  fed_at i below = let none = none_unpublished w.driver t y due.idle in f.queues.fed.pieces t i y due.endpoint due.there held its_end (omega (arith, none)) below
+  pub fed_at : (i : ℕ) → i < y.qtds
+      → IsPieceFed y.sort (s.parts n) (sized y.sort i (note_at w.driver.notes (piece_at (note_in w.driver.notes) y.first i))) (piece_at (note_in w.driver.notes) y.first i) (piece_at (note_in w.driver.notes) y.first y.qtds)
+  fed_at i below = let none = none_unpublished w.driver t y due.idle in k.queues.fed.pieces t i y due.endpoint due.there held its_end (omega (arith, none)) below
 
   -- the qTD that is read
   pub piece_here : IsPieceFed y.sort (s.parts n) (sized y.sort (y.qtds - y.left) (note_at w.driver.notes (piece_at (note_in w.driver.notes) y.first (y.qtds - y.left)))) (piece_at (note_in w.driver.notes) y.first (y.qtds - y.left)) (piece_at (note_in w.driver.notes) y.first y.qtds)
@@ -275,7 +276,8 @@ module _ (g : Sides) (fixed : Fixed) (takes : ℕ → ℕ → Bool) (member : �
       subst (λ (z : Sent). IsReadTo s.hand s.parts n (note_at w.driver.notes) y z.request) same_sent
       (j.read e t due.endpoint y its going due.next due.there)
 
-  noted_data : has_data ((queue_in (a.courses n)).requests 0) ≡ true → IsRead (s.parts n) (note_at w.driver.notes (next_of w.driver.notes y.first)) (next_of w.driver.notes y.first)
+  noted_data : has_data ((queue_in (a.courses n)).requests 0) ≡ true
+      → IsRead (s.parts n) (note_at w.driver.notes (next_of w.driver.notes y.first)) (next_of w.driver.notes y.first)
   noted_data carries =
       let r : Request = (queue_in (a.courses n)).requests 0 in
       let many : y.qtds ≡ length (request_stages r.setup) = ap (λ (z : Transfer). z.qtds) (sym own_is) ∙ laid.qtds in
@@ -286,7 +288,7 @@ module _ (g : Sides) (fixed : Fixed) (takes : ℕ → ℕ → Bool) (member : �
   -- its place is in a queue that is asked
   module _ (done : found ≢ founds.Active) where
     pub off : (token_in w.memory y.place).active ≡ false
-    off = not_active (driver_parts w) e t found due owners f.turns done
+    off = not_active (driver_parts w) e t found due owners k.turns done
 
     qtd_off : piece_here.qtd.token.active ≡ false
     qtd_off = ap (λ (z : Token). z.active) (sym (token_is_read w.memory s.parts n y.place piece_here.qtd tells qtd_here)) ∙ off
@@ -321,7 +323,7 @@ module _ (g : Sides) (fixed : Fixed) (takes : ℕ → ℕ → Bool) (member : �
             at = at_place;
             silent = silent t y due.there sort held;
             so_far = subst (λ (z : Queue). IsReadTo s.hand s.parts n (note_at w.driver.notes) y (z.requests 0)) queue so_far;
-            within = k.told.holds.within t y due.there held;
+            within = k.within t y due.there held;
             tells = tells;
             on = on;
             noted = subst (λ (z : Queue). has_data (z.requests 0) ≡ true → IsRead (s.parts n) (note_at w.driver.notes (next_of w.driver.notes y.first)) (next_of w.driver.notes y.first)) queue noted_data;
@@ -345,12 +347,12 @@ module _ (g : Sides) (fixed : Fixed) (takes : ℕ → ℕ → Bool) (member : �
   uncancelled = by due.endpoint.cancelled refl
     where
       by : (b : Bool) → due.endpoint.cancelled ≡ b → b ≡ false
-      by true is = absurd ((f.turns.asynchronous.endpoints e due.endpoint due.here).ended is due.goes_on)
+      by true is = absurd ((k.turns.asynchronous.endpoints e due.endpoint due.here).ended is due.goes_on)
       by false is = refl
 
-  pub kept : AreRecords (ended_driver w e t found) asks a.courses a.numbers (has_left w.driver) v
+  pub kept : AreRecords (ended_driver w e t found) asks a.courses a.numbers (has_left g w.driver) v
   kept =
-      row_keeps_records (driver_parts w) (rows.Harvest e t found) asks a.courses a.numbers (has_left w.driver) v (λ i has. tt)
+      row_keeps_records (driver_parts w) (rows.Harvest e t found) asks a.courses a.numbers (has_left g w.driver) v (λ i has. tt)
       (λ i m has few is. let bad : ◌≡◌ {A = Option ℕ} None (Some ((a.numbers i).number m)) = is in cc) j.records
 
   pub new_is : ended_driver w e t found ≡ served (harvested_as w.driver w.memory e t due.endpoint y found) e
@@ -385,7 +387,7 @@ module _ (g : Sides) (fixed : Fixed) (takes : ℕ → ℕ → Bool) (member : �
   closed_is = tell.closed ∙ ap (λ (ts : List ℕ). tell.reported ++ ts) (tell.going going) ∙ append-nil tell.reported
 
 pub harvest_reads_first : HarvestReadsFirst
-harvest_reads_first g fixed takes member x s a v asks w e t found due control done k silent j = reads g fixed takes member x s a v asks w e t found due control k silent j done
+harvest_reads_first g fixed member x s a v asks w e t found due control done k silent j = reads g fixed member x s a v asks w e t found due control k silent j done
 
 -- ---- it is found done
 
@@ -397,21 +399,24 @@ abbrev is_done : What → Bool
 is_done lines.Done = true
 is_done _ = false
 
-halts_by : (missed babble error : Bool) → is_done (if missed then lines.Miss else if babble then lines.Halt causes.Babble else if error then lines.Halt causes.Error else lines.Halt causes.Stall) ≡ false
+halts_by : (missed babble error : Bool)
+    → is_done (if missed then lines.Miss else if babble then lines.Halt causes.Babble else if error then lines.Halt causes.Error else lines.Halt causes.Stall) ≡ false
 halts_by true babble error = refl
 halts_by false true error = refl
 halts_by false false true = refl
 halts_by false false false = refl
 
 last_by : (active halted last : Bool) (note : QtdNote) (t : Token)
-    → true ≡ is_done (what_in (if active then founds.Active else if halted then founds.Ended (moved_of note.told t.total) (halt_of t) else done_of (last || false) (moved_of note.told t.total))) → last ≡ true
+    → true ≡ is_done (what_in (if active then founds.Active else if halted then founds.Ended (moved_of note.told t.total) (halt_of t) else done_of (last || false) (moved_of note.told t.total)))
+    → last ≡ true
 last_by true halted last note t is = absurd cc
 last_by false true last note t is = absurd (false≢true (sym (halts_by t.missed t.babble (nat_eq t.cerr 0)) ∙ sym is))
 last_by false false true note t is = refl
 last_by false false false note t is = absurd cc
 
-module _ (g : Sides) (fixed : Fixed) (takes : ℕ → ℕ → Bool) (member : ℕ → Bool) (x : Streams) (s : Standing) (a : Asking) (v : Windows) (asks : ℕ → Request) (w : World) (e t m : ℕ)
-    (due : IsHarvestDue (driver_parts w) e t (founds.Ended m lines.Done)) (control : due.endpoint.desc.kind ≡ kinds.Control) (k : IsWhole fixed takes member x s w) (silent : AreSilent w.driver) (j : IsAskingWorld g fixed member s a v asks w) where
+module _ (g : Sides) (fixed : Fixed) (member : ℕ → Bool) (x : Streams) (s : Standing) (a : Asking) (v : Windows) (asks : ℕ → Request)
+    (w : World) (e t m : ℕ)
+    (due : IsHarvestDue (driver_parts w) e t (founds.Ended m lines.Done)) (control : g.asks due.endpoint.desc ≡ true) (k : IsFooting member x s w) (silent : AreSilent w.driver) (j : IsAskingWorld g fixed member s a v asks w) where
   abbrev place : ℕ
   place = 32 * due.endpoint.queue
 
@@ -428,7 +433,7 @@ module _ (g : Sides) (fixed : Fixed) (takes : ℕ → ℕ → Bool) (member : �
   new = ended_driver w e t (founds.Ended m lines.Done)
 
   is_first : ReadsFirst member s a w e t (founds.Ended m lines.Done) due
-  is_first = reads g fixed takes member x s a v asks w e t (founds.Ended m lines.Done) due control k silent j ended_active
+  is_first = reads g fixed member x s a v asks w e t (founds.Ended m lines.Done) due control k silent j ended_active
 
   last : due.transfer.left ≤ 1
   last =
@@ -436,7 +441,8 @@ module _ (g : Sides) (fixed : Fixed) (takes : ℕ → ℕ → Bool) (member : �
       leb-true due.transfer.left 1 (last_by (token_in w.memory due.transfer.place).active (token_in w.memory due.transfer.place).halted (nat_le due.transfer.left 1) (note_at w.driver.notes due.transfer.place) (token_in w.memory due.transfer.place)
       (ap (λ (z : Found). is_done (what_in z)) found))
 
-  module _ (q : Queue) (b : ℕ) (l : Lines) (asked : a.courses (32 * due.endpoint.queue) ≡ Asks q b l) (some : 0 < q.count) (at : IsAtRequest member (driver_parts w) e t (founds.Ended m lines.Done) due s.parts s.hand (q.requests 0) (q.places 0)) where
+  module _ (q : Queue) (b : ℕ) (l : Lines) (asked : a.courses (32 * due.endpoint.queue) ≡ Asks q b l) (some : 0 < q.count)
+      (at : IsAtRequest member (driver_parts w) e t (founds.Ended m lines.Done) due s.parts s.hand (q.requests 0) (q.places 0)) where
     queue : queue_in (a.courses place) ≡ q
     queue = ap queue_in asked
 
@@ -447,12 +453,12 @@ module _ (g : Sides) (fixed : Fixed) (takes : ℕ → ℕ → Bool) (member : �
     ended =
         let own : at.laid.own ≡ due.transfer = same_Some at.laid.own due.transfer (sym at.laid.here ∙ due.there) in
         let stage = stage_read w.driver t (q.requests 0) (q.places 0) due.transfer at.laid own at.at in
-        done_is_ended (driver_parts w) e t m s.parts q.endpoint (q.requests 0) (q.places 0) (piece_here g fixed takes member x s a v asks w e t as_done due control k silent j).qtd due at.laid at.sort at.at at.tells
-        (ap (s.parts place) (stage.last last) ∙ qtd_here g fixed takes member x s a v asks w e t as_done due control k silent j)
+        done_is_ended (driver_parts w) e t m s.parts q.endpoint (q.requests 0) (q.places 0) (piece_here g fixed member x s a v asks w e t as_done due control k silent j).qtd due at.laid at.sort at.at at.tells
+        (ap (s.parts place) (stage.last last) ∙ qtd_here g fixed member x s a v asks w e t as_done due control k silent j)
 
     was : IsRecord new asks place (Asks q b l) its_numbers v
     was = subst (λ (c : Course). IsRecord new asks place c its_numbers v) asked
-        ((kept g fixed takes member x s a v asks w e t as_done due control k silent j).each place (has g fixed takes member x s a v asks w e t as_done due control k silent j).queue)
+        ((kept g fixed member x s a v asks w e t as_done due control k silent j).each place (has g fixed member x s a v asks w e t as_done due control k silent j).queue)
 
     -- what the lines tell
     module _ (once : IsActedOnce (sent_at q 0) (l.line 0) s.hand s.parts place) where
@@ -460,43 +466,43 @@ module _ (g : Sides) (fixed : Fixed) (takes : ℕ → ℕ → Bool) (member : �
       bytes_are =
           moved_are_all q (l.line 0) s.hand s.parts place due.transfer.left (bytes_with (driver_parts w) due.transfer m) (stands.line.requests 0 some) once last
           (read_is_moved member (driver_parts w) e t m lines.Done due s.parts s.hand (q.requests 0) (q.places 0) at)
-          ∙ ap (λ (z : Queue). data_of z.endpoint (z.requests 0)) (sym queue) ∙ sym (whole_is g fixed takes member x s a v asks w e t as_done due control k silent j)
+          ∙ ap (λ (z : Queue). data_of z.endpoint (z.requests 0)) (sym queue) ∙ sym (whole_is g fixed member x s a v asks w e t as_done due control k silent j)
 
       acted : v.acts t ≡ (asks t).setup ∷ []
       acted =
           ap v.acts (sym is_first.number) ∙ was.acts.begun 0 (omega arith) ∙ once.acts
-          ∙ ap (λ (r : Request). r.setup ∷ []) (ap (λ (z : Queue). z.requests 0) (sym queue) ∙ sym (asked_is g fixed takes member x s a v asks w e t as_done due control k silent j))
+          ∙ ap (λ (r : Request). r.setup ∷ []) (ap (λ (z : Queue). z.requests 0) (sym queue) ∙ sym (asked_is g fixed member x s a v asks w e t as_done due control k silent j))
 
       new_reports : IsUncancelled due.endpoint.desc.name new
       new_reports =
-          subst (λ (d : DriverContent). has_cancel (lines_in due.endpoint.desc.name d.reports) ≡ false) (sym (new_is g fixed takes member x s a v asks w e t as_done due control k silent j))
+          subst (λ (d : DriverContent). has_cancel (lines_in due.endpoint.desc.name d.reports) ≡ false) (sym (new_is g fixed member x s a v asks w e t as_done due control k silent j))
           (uncancelled_more due.endpoint.desc.name w.driver.reports
           (record { name = due.endpoint.desc.name; what = lines.Done; from = length w.driver.store; len = length (bytes_with (driver_parts w) due.transfer m) }) refl
-          (tell g fixed takes member x s a v asks w e t as_done due control k silent j).uncancelled)
+          (tell g fixed member x s a v asks w e t as_done due control k silent j).uncancelled)
 
       told : HasTelling new asks e due.endpoint g.whole v (first_closed its_numbers)
       told =
-          let before = tell g fixed takes member x s a v asks w e t as_done due control k silent j in
+          let before = tell g fixed member x s a v asks w e t as_done due control k silent j in
           record {
             reported = before.reported ++ t ∷ [];
             untold = [];
-            closed = ap (λ (ts : List ℕ). ts ++ its_numbers.number 0 ∷ []) (closed_is g fixed takes member x s a v asks w e t as_done due control k silent j)
+            closed = ap (λ (ts : List ℕ). ts ++ its_numbers.number 0 ∷ []) (closed_is g fixed member x s a v asks w e t as_done due control k silent j)
                 ∙ ap (λ (i : ℕ). before.reported ++ i ∷ []) is_first.number ∙ sym (append-nil (before.reported ++ t ∷ []));
             going = λ goes. refl;
             uncancelled = new_reports;
             telling = harvest_tells (driver_parts w) t m lines.Done due.endpoint due.transfer asks e t (g.whole due.endpoint.desc.name) v before.reported (first_of (λ i. its_numbers.number (suc i)) (its_numbers.requests.count - 1))
-                (record { here = due.here; there = due.there; waits = due.waits }) refl refl refl (acted, bytes_are) (telling_first g fixed takes member x s a v asks w e t as_done due control k silent j);
+                (record { here = due.here; there = due.there; waits = due.waits }) refl refl refl (acted, bytes_are) (telling_first g fixed member x s a v asks w e t as_done due control k silent j);
           }
 
     -- ---- others are behind it, or none is
 
     many : its_numbers.requests.count ≡ q.count
-    many = count_is g fixed takes member x s a v asks w e t as_done due control k silent j ∙ ap (λ (z : Queue). z.count) queue
+    many = count_is g fixed member x s a v asks w e t as_done due control k silent j ∙ ap (λ (z : Queue). z.count) queue
 
     goes_on : 1 < q.count → RequestEnds g fixed member s a v asks w new e due.endpoint (first_closed (a.numbers (32 * due.endpoint.queue)))
     goes_on more =
         let gone : FirstHasGone control_of member a.courses s.parts s.hand (wired fixed w) place q l (Asks (without_first q) b (lines_behind q l)) =
-        first_goes control_of member a.courses s.parts s.hand (walk_place (controller_parts w)).walk.reply (wired fixed w) place b q l asked more at.on k.feeding.working.streaming.controlled.ring.in_hand ended j.stand in
+        first_goes control_of member a.courses s.parts s.hand (walk_place (controller_parts w)).walk.reply (wired fixed w) place b q l asked more at.on k.in_hand ended j.stand in
         record {
           course = Asks (without_first q) b (lines_behind q l);
           queue = refl;
@@ -505,15 +511,16 @@ module _ (g : Sides) (fixed : Fixed) (takes : ℕ → ℕ → Bool) (member : �
           count = ap (λ (i : ℕ). i - 1) many;
           rests = λ none. let same = many in absurd (omega (arith, more, none, same));
           stand = gone.stand;
-          records = course_is_recorded new asks a.courses a.numbers (has_left w.driver) v place (Asks (without_first q) b (lines_behind q l)) (first_closed its_numbers)
-              (first_is_closed new asks place b q l its_numbers v more gone.once.acts was) (kept g fixed takes member x s a v asks w e t as_done due control k silent j);
+          records = course_is_recorded new asks a.courses a.numbers (has_left g w.driver) v place (Asks (without_first q) b (lines_behind q l)) (first_closed its_numbers)
+              (first_is_closed new asks place b q l its_numbers v more gone.once.acts was) (kept g fixed member x s a v asks w e t as_done due control k silent j);
           telling = told gone.once;
         }
 
-    goes_last : q.count ≡ 1 → RequestEnds g fixed member s a v asks w new e due.endpoint (first_closed (a.numbers (32 * due.endpoint.queue)))
+    goes_last : q.count ≡ 1
+        → RequestEnds g fixed member s a v asks w new e due.endpoint (first_closed (a.numbers (32 * due.endpoint.queue)))
     goes_last one =
         let gone : FirstHasGone control_of member a.courses s.parts s.hand (wired fixed w) place q l (Rests (without_first q) b (l.line 0).device) =
-        last_goes control_of member a.courses s.parts s.hand (walk_place (controller_parts w)).walk.reply (wired fixed w) place b q l asked one at.on k.feeding.working.streaming.controlled.ring.in_hand ended j.stand in
+        last_goes control_of member a.courses s.parts s.hand (walk_place (controller_parts w)).walk.reply (wired fixed w) place b q l asked one at.on k.in_hand ended j.stand in
         record {
           course = Rests (without_first q) b (l.line 0).device;
           queue = refl;
@@ -522,8 +529,8 @@ module _ (g : Sides) (fixed : Fixed) (takes : ℕ → ℕ → Bool) (member : �
           count = ap (λ (i : ℕ). i - 1) many;
           rests = λ none. refl;
           stand = gone.stand;
-          records = course_is_recorded new asks a.courses a.numbers (has_left w.driver) v place (Rests (without_first q) b (l.line 0).device) (first_closed its_numbers)
-              (last_is_closed new asks place b q l (l.line 0).device its_numbers v one stands.queue.within gone.once.acts was) (kept g fixed takes member x s a v asks w e t as_done due control k silent j);
+          records = course_is_recorded new asks a.courses a.numbers (has_left g w.driver) v place (Rests (without_first q) b (l.line 0).device) (first_closed its_numbers)
+              (last_is_closed new asks place b q l (l.line 0).device its_numbers v one stands.queue.within gone.once.acts was) (kept g fixed member x s a v asks w e t as_done due control k silent j);
           telling = told gone.once;
         }
 
@@ -535,4 +542,4 @@ module _ (g : Sides) (fixed : Fixed) (takes : ℕ → ℕ → Bool) (member : �
   done_leaves = ends is_first.queue is_first.tail is_first.lines is_first.asked is_first.some is_first.at
 
 pub done_ends : DoneEnds
-done_ends g fixed takes member x s a v asks w e t m due control k silent j = done_leaves g fixed takes member x s a v asks w e t m due control k silent j
+done_ends g fixed member x s a v asks w e t m due control k silent j = done_leaves g fixed member x s a v asks w e t m due control k silent j

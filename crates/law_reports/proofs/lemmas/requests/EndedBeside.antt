@@ -13,20 +13,17 @@ use Rattle.usb_base.specs.declared.reports.What.{What}
 use Rattle.bus_wire.specs.Bus.{Fixed}
 use Rattle.bus_wire.specs.Fates.{is_same_name}
 use Rattle.drv_table.specs.declared.content.Command.{Command}
-use Rattle.drv_table.specs.declared.content.Command.TheVariants as unfinished
 use Rattle.drv_table.specs.declared.content.Endpoint.{Endpoint}
 use Rattle.drv_table.specs.declared.content.Mend.{Mend}
 use Rattle.drv_table.specs.declared.content.QtdNote.{QtdNote}
 use Rattle.drv_table.specs.declared.content.Transfer.{Transfer}
 use Rattle.drv_table.specs.declared.rows.DriverRow.{DriverRow}
-use Rattle.drv_table.specs.declared.rows.DriverRow.TheVariants as rows
 use Rattle.drv_table.specs.declared.rows.Found.{Found}
-use Rattle.drv_table.specs.declared.rows.Found.TheVariants as founds
 use Rattle.drv_table.specs.DriverContent.{DriverContent}
 use Rattle.drv_table.specs.Harvests.{note_at, end_of, is_stall}
 use Rattle.drv_table.specs.Rows.{driver_row, after_driver_row}
 use Rattle.drv_table.specs.Harvesting.{served, harvested_as}
-use Rattle.drv_table.specs.Words.{is_control, head_block, opening_head, request_stages}
+use Rattle.drv_table.specs.Words.{head_block, opening_head, request_stages}
 use Rattle.law_driver.specs.endpoint_lives.Lives.{told_end, may_meet, is_one_of}
 use Rattle.law_driver_ring.specs.fed_queues.Places.{IsMet}
 use Rattle.law_driver_ring.proofs.lemmas.fed_queues.Places.{stands_met}
@@ -53,7 +50,7 @@ use Rattle.claims_world.specs.Requests.{wired, Windows, numbers_of, opens, is_op
 use Rattle.law_reports.specs.requests.driver_requests.Requests.{IsLaidOut}
 use Rattle.law_reports.proofs.lemmas.requests.lemmas.driver_requests.Owning.{qtds_case}
 use Rattle.law_reports.proofs.lemmas.requests.lemmas.driver_requests.RowOrder.{row_numbers}
-use Rattle.law_reports.specs.requests.Courses.{Course, queue_in, CoursesStand}
+use Rattle.law_reports.specs.requests.Courses.{Course, queue_in, CoursesStand, have_queues}
 use Rattle.law_reports.specs.requests.Counts.{counted_all}
 use Rattle.law_reports.specs.requests.Records.{Numbers, AreRecords}
 use Rattle.law_reports.proofs.lemmas.requests.Rows.{row_keeps_records}
@@ -61,7 +58,7 @@ use Rattle.law_reports.proofs.lemmas.requests.Telling.{other_harvest_keeps_telli
 use Rattle.law_world.specs.streams.HarvestFeeds.{HarvestLeaves}
 use Rattle.law_world.specs.streams.Whole.{IsWhole}
 use Rattle.law_world.proofs.lemmas.streams.Leaving.{due, leaves, whole_harvested}
-use Rattle.law_reports.specs.requests.Asking.{IsUnheard, Sides, IsGiven, Asking, has_left, left_with, next_with, DataIsRead, HasCourse, HasTelling, IsCounted, IsUnopened, IsControlOf, IsMetControl, IsReadTo, IsAskingWorld}
+use Rattle.law_reports.specs.requests.Asking.{IsUnheard, Sides, IsGiven, Asking, has_left, left_with, next_with, DataIsRead, HasCourse, HasTelling, IsCounted, IsUnopened, IsControlOf, IsMetControl, IsReadTo, IsAskingWorld, HasAskingWorld}
 use Rattle.law_reports.specs.requests.Ended.{ended_driver}
 use Rattle.law_reports.specs.requests.Endings.{EndedBesideKeepsAsking}
 use Rattle.law_reports.proofs.lemmas.requests.Beside.{one_queue}
@@ -69,12 +66,17 @@ use Rattle.law_reports.proofs.lemmas.requests.Ending.{TransferEnds, end_with, st
 use Rattle.law_reports.proofs.lemmas.requests.Has.{asking_of}
 use Rattle.law_reports.proofs.lemmas.requests.Leaving.{IsQuiet, idle_quiet, IsEndpointStill}
 use Rattle.law_reports.proofs.lemmas.requests.Moves.{first_one, second_one}
-use Rattle.law_reports.proofs.lemmas.requests.Names.{one_of}
-use Rattle.law_reports.proofs.lemmas.requests.Missed.{idle_misses}
+use Rattle.law_reports.proofs.lemmas.requests.Missed.{narrow_unmissed, narrow_misses, none_published}
+use Rattle.law_reports.specs.requests.Footing.{IsFooting}
+use Rattle.law_reports.proofs.lemmas.requests.Footing.{footing}
+use Rattle.drv_table.specs.declared.content.Command.TheVariants as unfinished
+use Rattle.drv_table.specs.declared.rows.DriverRow.TheVariants as rows
+use Rattle.drv_table.specs.declared.rows.Found.TheVariants as founds
 
 -- ---- the qTDs of a request with data
 
-pub data_three : (d : DriverContent) (u : ℕ) (r : Request) (x : Places) (y : Transfer) → IsLaidOut d u r x → slice_get d.transfers u ≡ Some y → has_data r ≡ true → y.qtds ≡ 3
+pub data_three : (d : DriverContent) (u : ℕ) (r : Request) (x : Places) (y : Transfer) → IsLaidOut d u r x
+    → slice_get d.transfers u ≡ Some y → has_data r ≡ true → y.qtds ≡ 3
 data_three d u r x y laid there carries =
     let own : laid.own ≡ y = same_Some laid.own y (sym laid.here ∙ there) in
     ap (λ (z : Transfer). z.qtds) (sym own) ∙ laid.qtds
@@ -84,19 +86,14 @@ pub is_number : (u m c : ℕ) → Some u ≡ next_with m c → (c ≡ u) × (0 <
 is_number u zero c none = absurd cc
 is_number u (suc m) c some = (sym (same_Some u c some), omega arith)
 
-module _ (g : Sides) (fixed : Fixed) (takes : ℕ → ℕ → Bool) (member : ℕ → Bool) (x : Streams) (s : Standing) (a : Asking) (v : Windows) (asks : ℕ → Request) (w : World) (e t m : ℕ) (what : What)
-    (row : driver_row (driver_parts w) ≡ rows.Harvest e t (founds.Ended m what)) (head : x.endpoint (32 * head_block) ≡ endpoint_of opening_head) (k : IsWhole fixed takes member x s w) (q : IsAskingWorld g fixed member s a v asks w) where
+module _ (g : Sides) (fixed : Fixed) (member : ℕ → Bool) (x : Streams) (s : Standing) (a : Asking) (v : Windows) (asks : ℕ → Request)
+    (w : World) (e t m : ℕ) (what : What)
+    (is_due : IsHarvestDue (driver_parts w) e t (founds.Ended m what)) (turns_now : AsynchronousTakesTurns (ended_driver w e t (founds.Ended m what))) (k : IsFooting member x s w) (q : IsAskingWorld g fixed member s a v asks w) where
   abbrev as_ended : Found
   as_ended = founds.Ended m what
 
-  pub is_due : IsHarvestDue (driver_parts w) e t (founds.Ended m what)
-  is_due = due fixed takes member x s w e t (founds.Ended m what) row k
-
   abbrev new : DriverContent
   new = ended_driver w e t (founds.Ended m what)
-
-  pub left : HarvestLeaves fixed member x s (driver_next w)
-  left = leaves fixed takes member x s w e t (founds.Ended m what) row k
 
   new_is : ended_driver w e t (founds.Ended m what) ≡ served (harvested_as w.driver w.memory e t is_due.endpoint is_due.transfer (founds.Ended m what)) e
   new_is = after_is (driver_parts w) e t as_ended is_due
@@ -161,7 +158,7 @@ module _ (g : Sides) (fixed : Fixed) (takes : ℕ → ℕ → Bool) (member : �
   no_open b same = cc
 
   pub due_met : IsMet w.driver e is_due.endpoint
-  due_met = stands_met w.driver e is_due.endpoint (k.feeding.turns.asynchronous.endpoints e is_due.endpoint is_due.here) is_due.goes_on (λ is. no_open is_due.endpoint.queue (sym is_due.idle ∙ is))
+  due_met = stands_met w.driver e is_due.endpoint (k.turns.asynchronous.endpoints e is_due.endpoint is_due.here) is_due.goes_on (λ is. no_open is_due.endpoint.queue (sym is_due.idle ∙ is))
 
   near_same : (i : ℕ) (z y : Endpoint) → IsSameBut y z → may_meet new i z ≡ may_meet w.driver i y
   near_same i z y same =
@@ -169,10 +166,10 @@ module _ (g : Sides) (fixed : Fixed) (takes : ℕ → ℕ → Bool) (member : �
       ∙ ap (λ (ws : List ℕ). y.linked || (is_one_of i ws || is_one_of i new.rung)) ends.waiting
       ∙ ap (λ (ws : List ℕ). y.linked || (is_one_of i w.driver.waiting || is_one_of i ws)) ends.rung
 
-  pub was_control : (i : ℕ) (z : Endpoint) → (is : IsControlOf new i z) → IsControlOf w.driver i (was_of i z is.here).was
-  was_control i z is = let u = was_of i z is.here in record { here = u.here; control = ap (λ (d : EpDesc). is_control d.kind) (sym u.same.desc) ∙ is.control }
+  pub was_control : (i : ℕ) (z : Endpoint) → (is : IsControlOf g new i z) → IsControlOf g w.driver i (was_of i z is.here).was
+  was_control i z is = let u = was_of i z is.here in record { here = u.here; control = ap (λ (d : EpDesc). g.asks d) (sym u.same.desc) ∙ is.control }
 
-  pub was_met : (i : ℕ) (z : Endpoint) → (is : IsMetControl new i z) → IsMetControl w.driver i (was_of i z is.is.here).was
+  pub was_met : (i : ℕ) (z : Endpoint) → (is : IsMetControl g new i z) → IsMetControl g w.driver i (was_of i z is.is.here).was
   was_met i z is =
       let u = was_of i z is.is.here in
       record {
@@ -183,30 +180,29 @@ module _ (g : Sides) (fixed : Fixed) (takes : ℕ → ℕ → Bool) (member : �
         };
       }
 
-  fewer : (i : ℕ) → has_left new i ≡ true → has_left w.driver i ≡ true
+  fewer : (i : ℕ) → has_left g new i ≡ true → has_left g w.driver i ≡ true
   fewer i on = by (slice_get new.endpoints i) refl on
     where
-      by : (o : Option Endpoint) → slice_get new.endpoints i ≡ o → left_with new i o ≡ true → has_left w.driver i ≡ true
+      by : (o : Option Endpoint) → slice_get new.endpoints i ≡ o → left_with g new i o ≡ true → has_left g w.driver i ≡ true
       by None is on = absurd (false≢true on)
       by (Some z) is on =
           let u = was_of i z is in
-          ap (left_with w.driver i) u.here
-          ∙ ap (λ (d : EpDesc). is_control d.kind && not (may_meet w.driver i u.was)) (sym u.same.desc)
-          ∙ ap (λ (b : Bool). is_control z.desc.kind && not b) (sym (near_same i z u.was u.same)) ∙ on
+          ap (left_with g w.driver i) u.here
+          ∙ ap (λ (d : EpDesc). g.asks d && not (may_meet w.driver i u.was)) (sym u.same.desc)
+          ∙ ap (λ (b : Bool). g.asks z.desc && not b) (sym (near_same i z u.was u.same)) ∙ on
 
   numbers_now : (i : ℕ) → numbers_of new i ≡ numbers_of w.driver i
   numbers_now i = row_numbers (driver_parts w) (rows.Harvest e t (founds.Ended m what)) i
 
-  pub turns_now : AsynchronousTakesTurns (ended_driver w e t (founds.Ended m what))
-  turns_now = subst (λ (r : DriverRow). AsynchronousTakesTurns (after_driver_row r (driver_parts w)).driver) row left.feeding.turns
-
-  pub next_now : (i u : ℕ) (z : Endpoint) (y : Transfer) → slice_get new.endpoints i ≡ Some z → told_end z ≡ None → z.next ≡ Some u → slice_get new.transfers u ≡ Some y → (y.endpoint ≡ i) × (y.reported ≡ false)
+  pub next_now : (i u : ℕ) (z : Endpoint) (y : Transfer) → slice_get new.endpoints i ≡ Some z → told_end z ≡ None → z.next ≡ Some u
+      → slice_get new.transfers u ≡ Some y → (y.endpoint ≡ i) × (y.reported ≡ false)
   next_now i u z y here going next there =
       let n : IsNext (turn_in new.transfers) i u = subst (λ (o : Option ℕ). AreReportedTo (turn_in new.transfers) i o) next (turns_now.turns.turns.next i z here going) in
       let same : n.transfer ≡ turn_of y = same_Some n.transfer (turn_of y) (sym n.here ∙ ap (option_map turn_of) there) in
       (ap (λ (r : Turn). r.endpoint) (sym same) ∙ n.endpoint, ap (λ (r : Turn). r.reported) (sym same) ∙ n.waits)
 
-  pub transfer_was : (u : ℕ) (y : Transfer) → slice_get new.transfers u ≡ Some y → y.reported ≡ false → (slice_get w.driver.transfers u ≡ Some y) × (u ≢ t)
+  pub transfer_was : (u : ℕ) (y : Transfer) → slice_get new.transfers u ≡ Some y → y.reported ≡ false
+      → (slice_get w.driver.transfers u ≡ Some y) × (u ≢ t)
   transfer_was u y there waits =
       let told = ends.transfers u y there in
       let off : told.one.reported ≡ false = by told.one.reported told.told in
@@ -220,9 +216,10 @@ module _ (g : Sides) (fixed : Fixed) (takes : ℕ → ℕ → Bool) (member : �
   -- ---- what is read of others
 
   pub next_read : IsReadNext w.driver e t is_due.endpoint is_due.transfer
-  next_read = read_next (driver_parts w) e t as_ended is_due k.feeding.working.place.sound.owners k.feeding.turns
+  next_read = read_next (driver_parts w) e t as_ended is_due k.owners k.turns
 
-  module _ (u : ℕ) (y : Transfer) (there : slice_get w.driver.transfers u ≡ Some y) (waits : y.reported ≡ false) (kept : y.released ≡ false) (differs : u ≢ t) where
+  module _ (u : ℕ) (y : Transfer) (there : slice_get w.driver.transfers u ≡ Some y) (waits : y.reported ≡ false) (kept : y.released ≡ false)
+      (differs : u ≢ t) where
     pub note_kept : (b : ℕ) → IsOneFrom (note_at w.driver.notes) y.first y.qtds b → note_at new.notes b ≡ note_at w.driver.notes b
     note_kept b one =
         ap (λ (ns : List QtdNote). note_at ns b) ends.notes
@@ -232,7 +229,8 @@ module _ (g : Sides) (fixed : Fixed) (takes : ℕ → ℕ → Bool) (member : �
     pub placed : IsAtPlace (note_in w.driver.notes) y
     placed = next_read.places u y there waits kept
 
-    pub read_kept : (n : ℕ) (r : Request) → (has_data r ≡ true → y.qtds ≡ 3) → IsReadTo s.hand s.parts n (note_at w.driver.notes) y r → IsReadTo s.hand s.parts n (note_at new.notes) y r
+    pub read_kept : (n : ℕ) (r : Request) → (has_data r ≡ true → y.qtds ≡ 3) → IsReadTo s.hand s.parts n (note_at w.driver.notes) y r
+        → IsReadTo s.hand s.parts n (note_at new.notes) y r
     read_kept n r three was =
         let least = placed.some in
         let most = placed.most in
@@ -251,12 +249,12 @@ module _ (g : Sides) (fixed : Fixed) (takes : ℕ → ℕ → Bool) (member : �
 
   -- ---- other endpoints
 
-  module _ (i : ℕ) (z : Endpoint) (is : IsMetControl new i z) (differs : i ≢ e) where
-    old : IsMetControl w.driver i z
-    old = subst (IsMetControl w.driver i) ((was_of i z is.is.here).beside differs) (was_met i z is)
+  module _ (i : ℕ) (z : Endpoint) (is : IsMetControl g new i z) (differs : i ≢ e) where
+    old : IsMetControl g w.driver i z
+    old = subst (IsMetControl g w.driver i) ((was_of i z is.is.here).beside differs) (was_met i z is)
 
     pub queues_apart : is_due.endpoint.queue ≢ z.queue
-    queues_apart same = differs (sym (one_queue g fixed member x s a v asks w k.feeding q e i is_due.endpoint z is_due.here old.is.here due_met.there.kept old.met.there.kept same))
+    queues_apart same = differs (sym (one_queue g fixed member x s a v asks w k q e i is_due.endpoint z is_due.here old.is.here due_met.there.kept old.met.there.kept same))
 
     course_beside : HasCourse g new i z (a.courses (32 * z.queue)) (a.numbers (32 * z.queue))
     course_beside =
@@ -283,7 +281,7 @@ module _ (g : Sides) (fixed : Fixed) (takes : ℕ → ℕ → Bool) (member : �
         by : (b : Bool) → is_same_name is_due.endpoint.desc.name z.desc.name ≡ b → b ≡ false
         by true one =
             let same : is_due.endpoint.desc.name ≡ z.desc.name = same_name_is is_due.endpoint.desc.name z.desc.name one in
-            absurd (differs (one_of fixed takes member x s w k head i e z is_due.endpoint old.is.here old.is.control is_due.here (ap (λ (n : EpName). n.addr) same) (ap (λ (n : EpName). n.num) same)))
+            absurd (differs (k.apart i e z is_due.endpoint old.is.here (g.controls z.desc old.is.control) is_due.here (ap (λ (n : EpName). n.addr) same) (ap (λ (n : EpName). n.num) same)))
         by false one = refl
 
     telling_beside : z.cancelled ≡ false → HasTelling new asks i z g.whole v (a.numbers (32 * z.queue))
@@ -341,7 +339,7 @@ module _ (g : Sides) (fixed : Fixed) (takes : ℕ → ℕ → Bool) (member : �
           absurd (false≢true (sym (none_opens is_due.endpoint) ∙ unheard_was name none e is_due.endpoint is_due.here (same_name_is is_due.endpoint.desc.name name one)))
       by false one = refl
 
-  counts_now : (i : ℕ) (z : Endpoint) → IsControlOf new i z → is_opening new z ≡ false → IsCounted fixed (record w { driver = new }) v i z
+  counts_now : (i : ℕ) (z : Endpoint) → IsControlOf g new i z → is_opening new z ≡ false → IsCounted fixed (record w { driver = new }) v i z
   counts_now i z is off =
       let u = was_of i z is.here in
       let h = q.counts i u.was (was_control i z is) (none_opens u.was) in
@@ -351,35 +349,44 @@ module _ (g : Sides) (fixed : Fixed) (takes : ℕ → ℕ → Bool) (member : �
         acted = h.acted ∙ ap (λ (ts : List ℕ). counted_all v ts 0) (sym (numbers_now i));
       }
 
-  pub records_kept : AreRecords (ended_driver w e t (founds.Ended m what)) asks a.courses a.numbers (has_left w.driver) v
+  pub records_kept : AreRecords (ended_driver w e t (founds.Ended m what)) asks a.courses a.numbers (has_left g w.driver) v
   records_kept =
-      row_keeps_records (driver_parts w) (rows.Harvest e t (founds.Ended m what)) asks a.courses a.numbers (has_left w.driver) v
+      row_keeps_records (driver_parts w) (rows.Harvest e t (founds.Ended m what)) asks a.courses a.numbers (has_left g w.driver) v
       (λ i has. tt)
       (λ i j has few is. let bad : ◌≡◌ {A = Option ℕ} None (Some ((a.numbers i).number j)) = is in cc) q.records
 
   module _ (b : Asking) (beside : (n : ℕ) → n ≢ 32 * is_due.endpoint.queue → (b.courses n ≡ a.courses n) × (b.numbers n ≡ a.numbers n))
-      (stand : CoursesStand control_of member b.courses s.parts s.hand (wired fixed w)) (records : AreRecords new asks b.courses b.numbers (has_left w.driver) v)
-      (own_each : (z : Endpoint) → IsMetControl new e z → HasCourse g new e z (b.courses (32 * z.queue)) (b.numbers (32 * z.queue)))
-      (own_read : (u : ℕ) (z : Endpoint) (y : Transfer) → IsMetControl new e z → told_end z ≡ None → z.next ≡ Some u → slice_get new.transfers u ≡ Some y
+      (stand : CoursesStand control_of member b.courses s.parts s.hand (wired fixed w)) (records : AreRecords new asks b.courses b.numbers (has_left g w.driver) v)
+      (fields : (n : ℕ) → (b.numbers n).endpoint ≡ (a.numbers n).endpoint) (queues : (n : ℕ) → have_queues b.courses n ≡ true → have_queues a.courses n ≡ true)
+      (own_each : (z : Endpoint) → IsMetControl g new e z → HasCourse g new e z (b.courses (32 * z.queue)) (b.numbers (32 * z.queue)))
+      (own_read : (u : ℕ) (z : Endpoint) (y : Transfer) → IsMetControl g new e z → told_end z ≡ None → z.next ≡ Some u → slice_get new.transfers u ≡ Some y
       → IsReadTo s.hand s.parts (32 * z.queue) (note_at new.notes) y ((b.numbers (32 * z.queue)).requests.requests 0))
-      (own_telling : (z : Endpoint) → IsMetControl new e z → z.cancelled ≡ false → HasTelling new asks e z g.whole v (b.numbers (32 * z.queue))) where
+      (own_telling : (z : Endpoint) → IsMetControl g new e z → z.cancelled ≡ false → HasTelling new asks e z g.whole v (b.numbers (32 * z.queue))) where
     -- what holds of the endpoint and of the others
-    of_each : (P : ℕ → Endpoint → Course → Numbers → Type 0) → ((z : Endpoint) → IsMetControl new e z → P e z (b.courses (32 * z.queue)) (b.numbers (32 * z.queue)))
-        → ((i : ℕ) (z : Endpoint) → IsMetControl new i z → i ≢ e → P i z (a.courses (32 * z.queue)) (a.numbers (32 * z.queue)))
-        → (i : ℕ) (z : Endpoint) → IsMetControl new i z → P i z (b.courses (32 * z.queue)) (b.numbers (32 * z.queue))
+    of_each : (P : ℕ → Endpoint → Course → Numbers → Type 0)
+        → ((z : Endpoint) → IsMetControl g new e z → P e z (b.courses (32 * z.queue)) (b.numbers (32 * z.queue)))
+        → ((i : ℕ) (z : Endpoint) → IsMetControl g new i z → i ≢ e → P i z (a.courses (32 * z.queue)) (a.numbers (32 * z.queue)))
+        → (i : ℕ) (z : Endpoint) → IsMetControl g new i z → P i z (b.courses (32 * z.queue)) (b.numbers (32 * z.queue))
     of_each P mine others i z is =
         ⊎_elim {C = P i z (b.courses (32 * z.queue)) (b.numbers (32 * z.queue))}
-        (λ (at : i ≡ e). subst (λ (j : ℕ). P j z (b.courses (32 * z.queue)) (b.numbers (32 * z.queue))) (sym at) (mine z (subst (λ (j : ℕ). IsMetControl new j z) at is)))
+        (λ (at : i ≡ e). subst (λ (j : ℕ). P j z (b.courses (32 * z.queue)) (b.numbers (32 * z.queue))) (sym at) (mine z (subst (λ (j : ℕ). IsMetControl g new j z) at is)))
         (λ (differs : i ≢ e).
         let apart : 32 * z.queue ≢ 32 * is_due.endpoint.queue = λ same. queues_apart i z is differs (sym (same_blocks z.queue is_due.endpoint.queue same)) in
         let same = beside (32 * z.queue) apart in
         subst (λ (c : Course). P i z c (b.numbers (32 * z.queue))) (sym same.0) (subst (P i z (a.courses (32 * z.queue))) (sym same.1) (others i z is differs))) (cases_eq i e)
 
-    asking_new : IsAskingWorld g fixed member (record s { out = left.out; reported = left.reported }) b v asks (record w { driver = ended_driver w e t (founds.Ended m what) })
+    asked_then : (n : ℕ) (z : Endpoint) → have_queues b.courses n ≡ true → slice_get new.endpoints (b.numbers n).endpoint ≡ Some z
+        → g.asks z.desc ≡ true
+    asked_then n z has there =
+        let u = was_of (a.numbers n).endpoint z (ap (slice_get new.endpoints) (sym (fields n)) ∙ there) in
+        ap (λ (d : EpDesc). g.asks d) u.same.desc ∙ q.asked n u.was (queues n has) u.here
+
+    pub asking_new : IsAskingWorld g fixed member s b v asks (record w { driver = ended_driver w e t (founds.Ended m what) })
     asking_new = record {
       stand = stand;
-      records = regone new asks b.courses b.numbers (has_left w.driver) (has_left new) v fewer records;
+      records = regone new asks b.courses b.numbers (has_left g w.driver) (has_left g new) v fewer records;
       each = of_each (λ i z c n. HasCourse g new i z c n) own_each course_beside;
+      asked = asked_then;
       publishing = λ i z is on. absurd (false≢true (sym (quiet_now.none i) ∙ on));
       read = λ i u z y is going next there.
           of_each (λ i z c n. told_end z ≡ None → z.next ≡ Some u → IsReadTo s.hand s.parts (32 * z.queue) (note_at new.notes) y (n.requests.requests 0))
@@ -390,22 +397,46 @@ module _ (g : Sides) (fixed : Fixed) (takes : ℕ → ℕ → Bool) (member : �
       counts = counts_now;
       unopened = λ addr num c some none first. q.unopened addr num c some (unopened_was addr num none) first;
       untold = untold_now;
-      unmissed = idle_misses w.driver new s.parts s.hand idle_now q.unmissed;
+      unmissed = record {
+        structures = narrow_unmissed (have_queues a.courses) (have_queues b.courses) s.parts queues q.unmissed.structures;
+        in_hand = narrow_misses (have_queues a.courses) (have_queues b.courses) s.hand queues q.unmissed.in_hand;
+        first = none_published new idle_now;
+      };
     }
 
-    pub asking_then : IsAskingWorld g fixed member (record s { out = left.out; reported = left.reported }) b v asks (driver_next w)
-    asking_then = subst (λ (r : DriverRow). IsAskingWorld g fixed member (record s { out = left.out; reported = left.reported }) b v asks (with_parts w (after_driver_row r (driver_parts w)))) (sym row) asking_new
+  none_ends : ((z : Endpoint) → slice_get w.driver.endpoints e ≡ Some z → g.asks z.desc ≡ false) → (z : Endpoint) → IsMetControl g new e z
+      → ⊥
+  none_ends other z is = let u = was_control e z is.is in false≢true (sym (other _ u.here) ∙ u.control)
 
-  pub whole_then : IsWhole fixed takes member x (record s { out = left.out; reported = left.reported }) (driver_next w)
-  whole_then = whole_harvested fixed takes member x s w e t (founds.Ended m what) row k left
+  -- of an endpoint that isn't asked
+  pub beside_asks : ((z : Endpoint) → slice_get w.driver.endpoints e ≡ Some z → g.asks z.desc ≡ false)
+      → IsAskingWorld g fixed member s a v asks (record w { driver = ended_driver w e t (founds.Ended m what) })
+  beside_asks other =
+      asking_new a (λ n differs. (refl, refl)) q.stand records_kept (λ n. refl) (λ n has. has) (λ z is. absurd (none_ends other z is)) (λ u z y is going next there. absurd (none_ends other z is))
+      (λ z is kept. absurd (none_ends other z is))
+
+-- ---- the row of a world of bulk and control endpoints
+
+module _ (fixed : Fixed) (takes : ℕ → ℕ → Bool) (member : ℕ → Bool) (x : Streams) (s : Standing) (w : World) (e t m : ℕ) (what : What)
+    (row : driver_row (driver_parts w) ≡ rows.Harvest e t (founds.Ended m what)) (k : IsWhole fixed takes member x s w) where
+  pub row_due : IsHarvestDue (driver_parts w) e t (founds.Ended m what)
+  row_due = due fixed takes member x s w e t (founds.Ended m what) row k
+
+  pub row_leaves : HarvestLeaves fixed member x s (driver_next w)
+  row_leaves = leaves fixed takes member x s w e t (founds.Ended m what) row k
+
+  pub row_turns : AsynchronousTakesTurns (ended_driver w e t (founds.Ended m what))
+  row_turns = subst (λ (r : DriverRow). AsynchronousTakesTurns (after_driver_row r (driver_parts w)).driver) row row_leaves.feeding.turns
+
+  -- the world with its requests
+  pub row_asks : (g : Sides) (b : Asking) (v : Windows) (asks : ℕ → Request) → x.endpoint (32 * head_block) ≡ endpoint_of opening_head
+      → IsAskingWorld g fixed member s b v asks (record w { driver = ended_driver w e t (founds.Ended m what) })
+      → HasAskingWorld g fixed takes x.stream x.packets v asks (driver_next w)
+  row_asks g b v asks head q =
+      asking_of g fixed takes member x (record s { out = row_leaves.out; reported = row_leaves.reported }) b v asks (driver_next w) (whole_harvested fixed takes member x s w e t (founds.Ended m what) row k row_leaves)
+      (subst (λ (r : DriverRow). IsAskingWorld g fixed member (record s { out = row_leaves.out; reported = row_leaves.reported }) b v asks (with_parts w (after_driver_row r (driver_parts w)))) (sym row) q) head
 
 pub ended_beside_keeps_asking : EndedBesideKeepsAsking
 ended_beside_keeps_asking g fixed takes member x s a v asks w e t m what row other head k q =
-    asking_of g fixed takes member x _ a v asks (driver_next w) (whole_then g fixed takes member x s a v asks w e t m what row head k q)
-    (asking_then g fixed takes member x s a v asks w e t m what row head k q a (λ n differs. (refl, refl)) q.stand (records_kept g fixed takes member x s a v asks w e t m what row head k q)
-    (λ z is. absurd (none z is)) (λ u z y is going next there. absurd (none z is)) (λ z is kept. absurd (none z is))) head
-  where
-    none : (z : Endpoint) → IsMetControl (ended_driver w e t (founds.Ended m what)) e z → ⊥
-    none z is =
-        let u = was_control g fixed takes member x s a v asks w e t m what row head k q e z is.is in
-        false≢true (sym (other _ u.here) ∙ u.control)
+    row_asks fixed takes member x s w e t m what row k g a v asks head
+    (beside_asks g fixed member x s a v asks w e t m what (row_due fixed takes member x s w e t m what row k) (row_turns fixed takes member x s w e t m what row k) (footing fixed takes member x s w k head) q other)

@@ -1,17 +1,16 @@
 -- Each script that a text spells has for its control endpoints what its commands ask of them.
-use Rattle.std.proofs.Common.{◌≡◌, ℕ, ◌≤◌, true, false, List, [], ◌∷◌, length, Option, Some, None, refl, sym, ap, subst, ◌∙◌, inl, inr, ◌⊎◌, arith}
+use Rattle.std.proofs.Common.{◌≡◌, ℕ, ◌≤◌, true, false, List, [], ◌∷◌, length, Option, Some, None, refl, sym, ap, subst, ◌∙◌, inl, inr, ◌⊎◌, arith, not}
 use Rattle.std.specs.Prelude.{◌==◌, find}
 use Rattle.std.specs.List.{AllByRecursion}
 use Rattle.std.specs.Option.{option_map, option_and_then}
-use Rattle.std.proofs.lemmas.Bool.{true≢false}
+use Rattle.std.proofs.lemmas.Bool.{true≢false, and_parts}
 use Rattle.std.proofs.lemmas.Option.{same_Some}
+use Rattle.law_common.proofs.Booleans.{not_on}
 use Rattle.law_world.proofs.Common.{control_kind}
 use Rattle.law_common.proofs.Lists.{all_more}
-use Rattle.usb_base.specs.declared.commands.Cmd.TheVariants as cmd
 use Rattle.usb_base.specs.declared.endpoints.EpDesc.{EpDesc}
 use Rattle.usb_base.specs.declared.endpoints.EpName.{EpName}
 use Rattle.script_types.specs.declared.scripts.Line.{Line}
-use Rattle.script_types.specs.declared.scripts.Line.TheVariants as line
 use Rattle.script_types.specs.declared.scripts.Script.{Script}
 use Rattle.script_types.specs.declared.devices.EpText.{EpText}
 use Rattle.script_forms.specs.declared.statements.Name.{Name}
@@ -37,10 +36,11 @@ use Rattle.law_devices.proofs.lemmas.declared_controls.Requests.{IsEight, form_e
 use Rattle.law_devices.proofs.lemmas.declared_controls.Texts.{is_ranged, spelled_kept}
 use Rattle.law_world.proofs.lemmas.streams.Moments.{spelled_asynchronous}
 use Rattle.law_reports.specs.requests.Asking.{IsGiven}
-use Rattle.law_reports.specs.requests.Given.{sides_of, GivesLine}
-use Rattle.claims_world.specs.Scripts.{OpensOfDevice}
+use Rattle.law_reports.specs.requests.Given.{sides_of, GivesLine, is_of_device}
 use Rattle.law_reports.specs.requests.Moments.{TextsAsk}
 use Rattle.law_reports.proofs.lemmas.requests.Scripts.{IsAddressed, IsCounted, commands_in, empty_counted, after_counted, asked_few}
+use Rattle.usb_base.specs.declared.commands.Cmd.TheVariants as cmd
+use Rattle.script_types.specs.declared.scripts.Line.TheVariants as line
 
 -- ---- a script
 
@@ -75,16 +75,19 @@ abbrev Addressed : Script → Line → Type 0
 Addressed s (line.Command (cmd.OpenEp x)) = is_of_hub s x.name.addr ≡ false → 1 ≤ x.name.addr
 Addressed s _ = Unit {0}
 
-text_by : (ds : List Placed) (name : Name) (x : EpDesc) (d : Placed) (o : Option EpText) → device_of ds name.addr ≡ Some d → find (is_named name) d.eps ≡ o → option_map (λ (e : EpText). e.desc) o ≡ Some x → IsDeclaredAt ds name x
+text_by : (ds : List Placed) (name : Name) (x : EpDesc) (d : Placed) (o : Option EpText) → device_of ds name.addr ≡ Some d
+    → find (is_named name) d.eps ≡ o → option_map (λ (e : EpText). e.desc) o ≡ Some x → IsDeclaredAt ds name x
 text_by ds name x d None here is e = cc
 text_by ds name x d (Some t) here is e = record { device = d; device_is = here; text = t; text_is = is; desc = same_Some t.desc x e }
 
-device_by : (ds : List Placed) (name : Name) (x : EpDesc) (o : Option Placed) → device_of ds name.addr ≡ o → option_and_then (λ d. ep_of d.eps name) o ≡ Some x → IsDeclaredAt ds name x
+device_by : (ds : List Placed) (name : Name) (x : EpDesc) (o : Option Placed) → device_of ds name.addr ≡ o
+    → option_and_then (λ d. ep_of d.eps name) o ≡ Some x → IsDeclaredAt ds name x
 device_by ds name x None is e = cc
 device_by ds name x (Some d) is e = text_by ds name x d (find (is_named name) d.eps) is refl e
 
 -- an endpoint has the address of its device
-declared_address : (w : Draft) (name : Name) (x : EpDesc) → IsDeclaredDraft w → IsCounted w → IsDeclaredAt w.devices name x → 1 ≤ x.name.addr
+declared_address : (w : Draft) (name : Name) (x : EpDesc) → IsDeclaredDraft w → IsCounted w → IsDeclaredAt w.devices name x
+    → 1 ≤ x.name.addr
 declared_address w name x h c k =
     let own : HasOwn w.endpoints k.device = subst (Holds (HasOwn w.endpoints)) k.device_is (all_find (HasOwn w.endpoints) (λ d. d.addr == name.addr) w.devices h.own) in
     let text : IsEpOf w.endpoints k.device.addr k.device.hub k.text =
@@ -92,7 +95,8 @@ declared_address w name x h c k =
     let low : IsAddressed k.device = subst (Holds IsAddressed) k.device_is (all_find IsAddressed (λ d. d.addr == name.addr) w.devices c.addressed) in
     subst (λ (d : EpDesc). 1 ≤ d.name.addr) k.desc (subst (λ (a : ℕ). 1 ≤ a) (sym text.address) low)
 
-from_address : (w : Draft) (x : EpDesc) → IsKnown w → is_of_hub (script_of w) x.name.addr ≡ false → (has_hub w.hubs x.name.addr ≡ true) ⊎ IsNamedIn w.devices x → 1 ≤ x.name.addr
+from_address : (w : Draft) (x : EpDesc) → IsKnown w → is_of_hub (script_of w) x.name.addr ≡ false
+    → (has_hub w.hubs x.name.addr ≡ true) ⊎ IsNamedIn w.devices x → 1 ≤ x.name.addr
 from_address w x h off (inl hub) = absurd (true≢false (sym hub ∙ off))
 from_address w x h off (inr n) = declared_address w n.name x h.declared h.counted (device_by w.devices n.name x (device_of w.devices n.name.addr) refl n.here)
 
@@ -120,19 +124,22 @@ requests_few text s r name e =
 
 -- ---- a line
 
-open_given : (s : Script) (x : EpDesc) → IsAsynchronous x → HasItsControl s x → HasItsName x → (is_of_hub s x.name.addr ≡ false → 1 ≤ x.name.addr) → (is_control x.kind ≡ true → is_of_hub s x.name.addr ≡ false)
-    → is_control x.kind ≡ true → IsGiven (sides_of s) x
-open_given s x only control named addressed device on =
-    let kind = control_kind x.kind on in
+open_given : (s : Script) (x : EpDesc) → IsAsynchronous x → HasItsControl s x → HasItsName x
+    → (is_of_hub s x.name.addr ≡ false → 1 ≤ x.name.addr)
+    → is_of_device s x ≡ true → IsGiven (sides_of s) x
+open_given s x only control named addressed on =
+    let both = and_parts (is_control x.kind) (not (is_of_hub s x.name.addr)) on in
+    let kind = control_kind x.kind both.0 in
+    let device : is_of_hub s x.name.addr ≡ false = not_on (is_of_hub s x.name.addr) both.1 in
     let size = named.high kind only.speed in
     record {
       stages = stages_of s x;
-      first = control kind only.speed (device on);
+      first = control kind only.speed device;
       address = refl;
       number = refl;
       max = refl;
       least = omega (arith, size);
-      addressed = addressed (device on);
+      addressed = addressed device;
       same = refl;
       none = refl;
       replies = λ r. refl;
@@ -144,10 +151,9 @@ record IsDeclaredLine (s : Script) (l : Line) : Type 0 where
   named : NamesLine l
   asks : AsksLine l
   addressed : Addressed s l
-  device : OpensOfDevice s l
 
 line_gives : (s : Script) (l : Line) → IsDeclaredLine s l → GivesLine (sides_of s) l
-line_gives s (line.Command (cmd.OpenEp x)) k = record { opened = open_given s x k.only k.control k.named k.addressed k.device; asks = tt }
+line_gives s (line.Command (cmd.OpenEp x)) k = record { opened = open_given s x k.only k.control k.named k.addressed; asks = tt }
 line_gives s (line.Command (cmd.Control name setup bytes)) k = record { opened = tt; asks = k.asks }
 line_gives s (line.Order event n) k = tt
 line_gives s (line.Micro n) k = tt
@@ -155,16 +161,17 @@ line_gives s (line.Plug n) k = tt
 line_gives s (line.Unplug n) k = tt
 line_gives s _ k = record { opened = tt; asks = tt }
 
-lines_give : (s : Script) (ls : List (ℕ × Line)) → AllByRecursion (λ l. AsynchronousLine l.1) ls → AllByRecursion (λ l. OpensItsControl s l.1) ls → AllByRecursion (λ l. NamesLine l.1) ls
-    → AllByRecursion (λ l. AsksLine l.1) ls → AllByRecursion (λ l. Addressed s l.1) ls → AllByRecursion (λ l. OpensOfDevice s l.1) ls → AllByRecursion (λ l. GivesLine (sides_of s) l.1) ls
-lines_give s [] only control named asks addressed device = tt
-lines_give s (l ∷ ls) only control named asks addressed device = (
-  line_gives s l.1 (record { only = only.0; control = control.0; named = named.0; asks = asks.0; addressed = addressed.0; device = device.0 }),
-  lines_give s ls only.1 control.1 named.1 asks.1 addressed.1 device.1,
+lines_give : (s : Script) (ls : List (ℕ × Line)) → AllByRecursion (λ l. AsynchronousLine l.1) ls
+    → AllByRecursion (λ l. OpensItsControl s l.1) ls → AllByRecursion (λ l. NamesLine l.1) ls
+    → AllByRecursion (λ l. AsksLine l.1) ls → AllByRecursion (λ l. Addressed s l.1) ls → AllByRecursion (λ l. GivesLine (sides_of s) l.1) ls
+lines_give s [] only control named asks addressed = tt
+lines_give s (l ∷ ls) only control named asks addressed = (
+  line_gives s l.1 (record { only = only.0; control = control.0; named = named.0; asks = asks.0; addressed = addressed.0 }),
+  lines_give s ls only.1 control.1 named.1 asks.1 addressed.1,
 )
 
 pub texts_ask : TextsAsk
 texts_ask text s spelled of = record {
-  asynchronous = spelled_asynchronous text s spelled of.only;
-  given = lines_give s s.lines of.only (texts_open_controls text s spelled) (texts_name_endpoints text s spelled).opened (texts_ask_requests text s spelled) (spelled_addressed text s spelled) of.devices;
+  asynchronous = spelled_asynchronous text s spelled of;
+  given = lines_give s s.lines of (texts_open_controls text s spelled) (texts_name_endpoints text s spelled).opened (texts_ask_requests text s spelled) (spelled_addressed text s spelled);
 }

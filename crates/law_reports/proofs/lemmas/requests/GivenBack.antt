@@ -7,7 +7,6 @@ use Rattle.law_controller.proofs.Common.{heads_stay, elements_stay, same_hand}
 use Rattle.law_reports.proofs.Common.{regone}
 use Rattle.usb_base.specs.declared.endpoints.EpDesc.{EpDesc}
 use Rattle.usb_base.specs.declared.endpoints.EpName.{EpName}
-use Rattle.usb_base.specs.declared.reports.What.TheVariants as lines
 use Rattle.bus_wire.specs.Bus.{Fixed}
 use Rattle.bus_wire.specs.Fates.{is_same_name}
 use Rattle.drv_table.specs.declared.content.Command.{Command}
@@ -16,13 +15,11 @@ use Rattle.drv_table.specs.declared.content.Mend.{Mend}
 use Rattle.drv_table.specs.declared.content.Transfer.{Transfer}
 use Rattle.drv_table.specs.declared.content.QtdNote.{QtdNote}
 use Rattle.drv_table.specs.declared.rows.DriverRow.{DriverRow}
-use Rattle.drv_table.specs.declared.rows.DriverRow.TheVariants as rows
 use Rattle.drv_table.specs.DriverContent.{DriverContent}
 use Rattle.drv_table.specs.Harvests.{note_at, reported as with_line}
 use Rattle.drv_table.specs.Parts.{Parts}
 use Rattle.drv_table.specs.Rows.{driver_row, after_driver_row}
 use Rattle.drv_table.specs.Releases.{after_endpoint, cancel_told, cancelled_bytes, is_told, let_go}
-use Rattle.drv_table.specs.Words.{is_control}
 use Rattle.law_driver.specs.run_owners.Due.{IsDue, IsEndpointDue}
 use Rattle.law_driver.proofs.lemmas.run_owners.Reasons.{each_event_is_due}
 use Rattle.law_driver.specs.endpoint_lives.Lives.{is_one_of, told_end, may_meet}
@@ -51,26 +48,28 @@ use Rattle.law_reports.proofs.lemmas.requests.Telling.{other_returns_keep_tellin
 use Rattle.law_world.specs.streams.Releases.{released}
 use Rattle.law_world.specs.streams.Whole.{IsWhole}
 use Rattle.law_world.proofs.lemmas.streams.LeavingReleased.{leaver, endpoint_release_whole}
-use Rattle.law_reports.specs.requests.Asking.{Sides, Asking, left_with, has_left, IsUnheard, IsMetControl, IsReadTo, IsAskingWorld, HasAskingWorld}
+use Rattle.law_reports.specs.requests.Asking.{Sides, Asking, left_with, has_left, IsUnheard, IsMetControl, IsReadTo, IsAskingWorld, HasAskingWorld, AsksIn}
 use Rattle.law_reports.specs.requests.Rows.{EndpointReleaseKeepsAsking, IsHeadOfNone}
 use Rattle.law_reports.proofs.lemmas.requests.Has.{asking_of}
 use Rattle.law_reports.proofs.lemmas.requests.Leaving.{idle_quiet, WasEndpoint, IsEndpointStill, RowLeaves, LinesLeave, each_still, world_left}
 use Rattle.law_reports.proofs.lemmas.requests.Beside.{owner_of, stand_beside}
-use Rattle.law_reports.proofs.lemmas.requests.Names.{one_of}
 use Rattle.law_reports.proofs.lemmas.requests.Releasing.{next_is}
 use Rattle.law_reports.proofs.lemmas.requests.Missed.{release_misses_none}
+use Rattle.law_reports.specs.requests.Footing.{IsFooting}
+use Rattle.law_reports.proofs.lemmas.requests.Footing.{footing}
+use Rattle.usb_base.specs.declared.reports.What.TheVariants as lines
+use Rattle.drv_table.specs.declared.rows.DriverRow.TheVariants as rows
 
 -- whether a line of the report tells it, the rest of the content is the same
 told_same : {X : Type 0} (f : DriverContent → X) (g d : DriverContent) (b : Bool) → f g ≡ f d → f (if b then g else d) ≡ f d
 told_same f g d true same = same
 told_same f g d false same = refl
 
-module _ (g : Sides) (fixed : Fixed) (takes : ℕ → ℕ → Bool) (member : ℕ → Bool) (x : Streams) (s : Standing) (a : Asking) (v : Windows) (asks : ℕ → Request) (w : World) (f : ℕ) (row : driver_row (driver_parts w) ≡ rows.ReleaseEndpoint f) (head : IsHeadOfNone x) (k : IsWhole fixed takes member x s w) (z : IsAskingWorld g fixed member s a v asks w) where
+module _ (g : Sides) (fixed : Fixed) (member : ℕ → Bool) (x : Streams) (s : Standing) (a : Asking) (v : Windows) (asks : ℕ → Request)
+    (w : World) (k : IsFooting member x s w) (z : IsAskingWorld g fixed member s a v asks w)
+    (f : ℕ) (own : Endpoint) (own_here : slice_get w.driver.endpoints f ≡ Some own) (idle : w.driver.command ≡ None) (unmet : member (32 * own.queue) ≡ false) where
   abbrev d : DriverContent
   d = w.driver
-
-  abbrev own : Endpoint
-  own = (leaver fixed takes member x s w f row k).endpoint
 
   abbrev n : ℕ
   n = 32 * own.queue
@@ -84,18 +83,8 @@ module _ (g : Sides) (fixed : Fixed) (takes : ℕ → ℕ → Bool) (member : �
   abbrev gone_own : Endpoint
   gone_own = record own { gone = true }
 
-  own_here : slice_get w.driver.endpoints f ≡ Some own
-  own_here = (leaver fixed takes member x s w f row k).leaves.here
-
   row_is : after_driver_row (rows.ReleaseEndpoint f) (driver_parts w) ≡ after
   row_is = ap (after_endpoint (driver_parts w) f) own_here
-
-  due : IsEndpointDue (driver_parts w) f
-  due = subst (IsDue (driver_parts w)) row (each_event_is_due (driver_parts w))
-
-  unmet : member n ≡ false
-  unmet =
-      cleared_unmet w.driver member 0 f own k.feeding.working.place.sound.owners k.feeding.turns k.feeding.queues.met (leaver fixed takes member x s w f row k).leaves.first own_here
 
   -- ---- what the row changes
 
@@ -109,7 +98,7 @@ module _ (g : Sides) (fixed : Fixed) (takes : ℕ → ℕ → Bool) (member : �
   command_is = keeps (λ (c : DriverContent). c.command) refl
 
   idle_now : after.driver.command ≡ None
-  idle_now = command_is ∙ due.idle
+  idle_now = command_is ∙ idle
 
   endpoints_are : after.driver.endpoints ≡ slice_set w.driver.endpoints f gone_own
   endpoints_are = ap (λ (xs : List Endpoint). slice_set xs f gone_own) (keeps (λ (c : DriverContent). c.endpoints) refl)
@@ -164,7 +153,8 @@ module _ (g : Sides) (fixed : Fixed) (takes : ℕ → ℕ → Bool) (member : �
       record { now = gone_own; here = ap (slice_get after.driver.endpoints) same ∙ left_now; desc = ap (λ (t : Endpoint). t.desc) is; queue = ap (λ (t : Endpoint). t.queue) is })
       (λ (differs : e ≢ f). record { now = y; here = others_now e differs ∙ here; desc = refl; queue = refl }) (cases_eq e f)
 
-  near_same : (e : ℕ) (y t : Endpoint) → slice_get after.driver.endpoints e ≡ Some y → slice_get w.driver.endpoints e ≡ Some t → may_meet after.driver e y ≡ may_meet w.driver e t
+  near_same : (e : ℕ) (y t : Endpoint) → slice_get after.driver.endpoints e ≡ Some y → slice_get w.driver.endpoints e ≡ Some t
+      → may_meet after.driver e y ≡ may_meet w.driver e t
   near_same e y t here there =
       meets_are e y
       ∙ ap (λ (b : Bool). b || (is_one_of e w.driver.waiting || is_one_of e w.driver.rung))
@@ -179,11 +169,11 @@ module _ (g : Sides) (fixed : Fixed) (takes : ℕ → ℕ → Bool) (member : �
 
   leaves : RowLeaves w.driver after.driver
   leaves = record {
-    quiet = idle_quiet w.driver due.idle;
+    quiet = idle_quiet w.driver idle;
     quiet_now = idle_quiet after.driver idle_now;
     was = was_one;
     still = still_one;
-    opening = λ e y here. not_opening after.driver y idle_now ∙ sym (not_opening w.driver (was_one e y here).was due.idle);
+    opening = λ e y here. not_opening after.driver y idle_now ∙ sym (not_opening w.driver (was_one e y here).was idle);
     linked = λ b other is. other (command_is ∙ is);
     near = λ e y here on. sym (near_same e y (was_one e y here).was here (was_one e y here).here) ∙ on;
     mends = λ i m at. (i, ap (λ (ms : List Mend). slice_get ms i) (sym mends_are) ∙ at);
@@ -205,36 +195,37 @@ module _ (g : Sides) (fixed : Fixed) (takes : ℕ → ℕ → Bool) (member : �
 
   -- ---- what is recorded
 
-  left_by : (e : ℕ) (o : Option Endpoint) → slice_get after.driver.endpoints e ≡ o → left_with after.driver e o ≡ true → has_left w.driver e ≡ true
+  left_by : (e : ℕ) (o : Option Endpoint) → slice_get after.driver.endpoints e ≡ o → left_with g after.driver e o ≡ true
+      → has_left g w.driver e ≡ true
   left_by e None is on = absurd (false≢true on)
   left_by e (Some y) is on =
       let t = was_one e y is in
-      ap (left_with w.driver e) t.here
-      ∙ ap (λ (b : Bool). b && not (may_meet w.driver e t.was)) (ap (λ (i : EpDesc). is_control i.kind) t.desc) ∙ ap (λ (b : Bool). is_control y.desc.kind && not b) (sym (near_same e y t.was is t.here)) ∙ on
+      ap (left_with g w.driver e) t.here
+      ∙ ap (λ (b : Bool). b && not (may_meet w.driver e t.was)) (ap (λ (i : EpDesc). g.asks i) t.desc) ∙ ap (λ (b : Bool). g.asks y.desc && not b) (sym (near_same e y t.was is t.here)) ∙ on
 
   -- a queue of which something is told is another endpoint's
   other_queue : (j : ℕ) → have_queues a.courses j ≡ true → (a.numbers j).endpoint ≢ f
   other_queue j has same =
-      let o = owner_of g fixed member x s a v asks w k.feeding z j has in
+      let o = owner_of g fixed member x s a v asks w k z j has in
       let one : own ≡ o.endpoint = same_Some own o.endpoint (sym own_here ∙ ap (slice_get w.driver.endpoints) (sym same ∙ o.is) ∙ o.control.is.here) in
       false≢true (sym unmet ∙ ap (λ (t : Endpoint). member (32 * t.queue)) one ∙ ap member (sym o.at) ∙ z.stand.members j has)
 
-  recorded : AreRecords after.driver asks a.courses a.numbers (has_left after.driver) v
+  recorded : AreRecords after.driver asks a.courses a.numbers (has_left g after.driver) v
   recorded =
-      regone after.driver asks a.courses a.numbers (has_left w.driver) (has_left after.driver) v
-      (λ e on. left_by e (slice_get after.driver.endpoints e) refl on)
-      (subst (λ (q : Parts). AreRecords q.driver asks a.courses a.numbers (has_left w.driver) v) row_is
-      (row_keeps_records (driver_parts w) (rows.ReleaseEndpoint f) asks a.courses a.numbers (has_left w.driver) v other_queue
+      regone after.driver asks a.courses a.numbers (has_left g w.driver) (has_left g after.driver) v (λ e on. left_by e (slice_get after.driver.endpoints e) refl on)
+      (subst (λ (q : Parts). AreRecords q.driver asks a.courses a.numbers (has_left g w.driver) v) row_is
+      (row_keeps_records (driver_parts w) (rows.ReleaseEndpoint f) asks a.courses a.numbers (has_left g w.driver) v other_queue
       (λ j i has few given. let never : ◌≡◌ {A = Option ℕ} None (Some ((a.numbers j).number i)) = given in cc) z.records))
 
   -- ---- what is read
 
-  reads : (e u : ℕ) (i : Endpoint) (r : Transfer) → IsMetControl after.driver e i → told_end i ≡ None → i.next ≡ Some u → slice_get after.driver.transfers u ≡ Some r
+  reads : (e u : ℕ) (i : Endpoint) (r : Transfer) → IsMetControl g after.driver e i → told_end i ≡ None → i.next ≡ Some u
+      → slice_get after.driver.transfers u ≡ Some r
       → IsReadTo s.hand now (32 * i.queue) (note_at after.driver.notes) r ((a.numbers (32 * i.queue)).requests.requests 0)
   reads e u i r m going next there =
       let differs : e ≢ f = is_other e i m.is.here m.met.there.kept in
       let here : slice_get w.driver.endpoints e ≡ Some i = sym (others_now e differs) ∙ m.is.here in
-      let m_was : IsMetControl w.driver e i = record {
+      let m_was : IsMetControl g w.driver e i = record {
         is = record { here = here; control = m.is.control };
         met = record { there = record { linked = λ is. m.met.there.linked (command_is ∙ is); kept = m.met.there.kept }; near = sym (meets_are e i) ∙ m.met.near };
       } in
@@ -247,7 +238,7 @@ module _ (g : Sides) (fixed : Fixed) (takes : ℕ → ℕ → Bool) (member : �
       let same : before.0 ≡ r = sym (kept_by f (is_told own) before.0 (λ own_of. differs (sym its ∙ own_of))) ∙ before.2 in
       let was : slice_get w.driver.transfers u ≡ Some r = before.1 ∙ ap Some same in
       let read : IsReadTo s.hand s.parts (32 * i.queue) (note_at w.driver.notes) r ((a.numbers (32 * i.queue)).requests.requests 0) = z.read e u i r m_was going next was in
-      let stays : now (32 * i.queue) ≡ s.parts (32 * i.queue) = stays_at (32 * i.queue) (k.feeding.queues.met.each e i here m_was.met) in
+      let stays : now (32 * i.queue) ≡ s.parts (32 * i.queue) = stays_at (32 * i.queue) (k.queues.met.each e i here m_was.met) in
       let read_now : IsReadTo s.hand now (32 * i.queue) (note_at w.driver.notes) r ((a.numbers (32 * i.queue)).requests.requests 0) = record {
         setup = read.setup;
         data_at = λ has one_left.
@@ -262,7 +253,8 @@ module _ (g : Sides) (fixed : Fixed) (takes : ℕ → ℕ → Bool) (member : �
 
   -- ---- what is told
 
-  other_lines : (name : EpName) → is_same_name own.desc.name name ≡ false → lines_in name after.driver.reports ≡ lines_in name w.driver.reports
+  other_lines : (name : EpName) → is_same_name own.desc.name name ≡ false
+      → lines_in name after.driver.reports ≡ lines_in name w.driver.reports
   other_lines name other =
       keeps (λ (c : DriverContent). lines_in name c.reports)
       (line_of_other name w.driver.reports (record { name = own.desc.name; what = lines.Cancel; from = length w.driver.store; len = length (cancelled_bytes w.driver.notes w.memory f own.queue w.driver.transfers) })
@@ -272,13 +264,14 @@ module _ (g : Sides) (fixed : Fixed) (takes : ℕ → ℕ → Bool) (member : �
   by_name a b false is differs = is
   by_name a b true is differs = absurd (differs (same_name_is a b is))
 
-  names_apart : (e : ℕ) (i : Endpoint) → IsMetControl after.driver e i → is_same_name own.desc.name i.desc.name ≡ false
+  names_apart : (e : ℕ) (i : Endpoint) → IsMetControl g after.driver e i → is_same_name own.desc.name i.desc.name ≡ false
   names_apart e i m =
       let differs : e ≢ f = is_other e i m.is.here m.met.there.kept in
       by_name own.desc.name i.desc.name (is_same_name own.desc.name i.desc.name) refl
-      (λ same. differs (one_of fixed takes member x s w k head e f i own (sym (others_now e differs) ∙ m.is.here) m.is.control own_here (ap (λ (t : EpName). t.addr) same) (ap (λ (t : EpName). t.num) same)))
+      (λ same. differs (k.apart e f i own (sym (others_now e differs) ∙ m.is.here) (g.controls i.desc m.is.control) own_here (ap (λ (t : EpName). t.addr) same) (ap (λ (t : EpName). t.num) same)))
 
-  tells : (e : ℕ) (i : Endpoint) → IsMetControl after.driver e i → LinesLeave w.driver after.driver asks v e i.desc.name (g.whole i.desc.name)
+  tells : (e : ℕ) (i : Endpoint) → IsMetControl g after.driver e i
+      → LinesLeave w.driver after.driver asks v e i.desc.name (g.whole i.desc.name)
   tells e i m = record {
     lines = other_lines i.desc.name (names_apart e i m);
     telling = λ reported waits told.
@@ -294,16 +287,38 @@ module _ (g : Sides) (fixed : Fixed) (takes : ℕ → ℕ → Bool) (member : �
 
   -- ---- the world
 
-  world : IsAskingWorld g fixed member (released s own) (record { courses = a.courses; numbers = a.numbers }) v asks (with_parts w after)
-  world = world_left g fixed member s a v asks w after leaves z tells unheard member (released s own) a.courses (release_misses_none s.parts (32 * own.queue) (λ i. true) z.unmissed.structures) z.unmissed.in_hand stand recorded (each_still g fixed member s a v asks w after leaves z) reads
+  abbrev later : Standing
+  later = record s { parts = now }
 
-  driver_is : after ≡ after_driver_row (driver_row (driver_parts w)) (driver_parts w)
-  driver_is = sym row_is ∙ ap (λ (r : DriverRow). after_driver_row r (driver_parts w)) (sym row)
+  world : AsksIn g member now s.hand (record { courses = a.courses; numbers = a.numbers }) v asks after.driver after.memory (wired fixed w)
+  world =
+      world_left g fixed member s a v asks w after leaves z tells unheard member later a.courses (λ j has. has) (release_misses_none (have_queues a.courses) s.parts (32 * own.queue) (λ i. true) z.unmissed.structures) z.unmissed.in_hand stand
+      recorded (each_still g fixed member s a v asks w after leaves z) reads
 
-  pub given_back_world : HasAskingWorld g fixed takes x.stream x.packets v asks (driver_next w)
+  pub given_back_asks : AsksIn g member now s.hand (record { courses = a.courses; numbers = a.numbers }) v asks (after_driver_row (rows.ReleaseEndpoint f) (driver_parts w)).driver (after_driver_row (rows.ReleaseEndpoint f) (driver_parts w)).memory
+      (wired fixed w)
+  given_back_asks = subst (λ (q : Parts). AsksIn g member now s.hand (record { courses = a.courses; numbers = a.numbers }) v asks q.driver q.memory (wired fixed w)) (sym row_is) world
+
+module _ (g : Sides) (fixed : Fixed) (takes : ℕ → ℕ → Bool) (member : ℕ → Bool) (x : Streams) (s : Standing) (a : Asking) (v : Windows)
+    (asks : ℕ → Request) (w : World) (f : ℕ) (row : driver_row (driver_parts w) ≡ rows.ReleaseEndpoint f) (head : IsHeadOfNone x)
+    (k : IsWhole fixed takes member x s w) (z : IsAskingWorld g fixed member s a v asks w) where
+  abbrev its : Endpoint
+  its = (leaver fixed takes member x s w f row k).endpoint
+
+  its_due : IsEndpointDue (driver_parts w) f
+  its_due = subst (IsDue (driver_parts w)) row (each_event_is_due (driver_parts w))
+
+  given : AsksIn g member (without_queue s.parts (32 * its.queue)) s.hand (record { courses = a.courses; numbers = a.numbers }) v asks (after_driver_row (rows.ReleaseEndpoint f) (driver_parts w)).driver
+      (after_driver_row (rows.ReleaseEndpoint f) (driver_parts w)).memory (wired fixed w)
+  given =
+      let l = leaver fixed takes member x s w f row k in
+      given_back_asks g fixed member x s a v asks w (footing fixed takes member x s w k head) z f its l.leaves.here its_due.idle
+      (cleared_unmet w.driver member 0 f its k.feeding.working.place.sound.owners k.feeding.turns k.feeding.queues.met l.leaves.first l.leaves.here)
+
+  given_back_world : HasAskingWorld g fixed takes x.stream x.packets v asks (driver_next w)
   given_back_world =
-      asking_of g fixed takes member x (released s own) (record { courses = a.courses; numbers = a.numbers }) v asks (driver_next w) (endpoint_release_whole fixed takes member x s w f row k)
-      (subst (λ (q : Parts). IsAskingWorld g fixed member (released s own) (record { courses = a.courses; numbers = a.numbers }) v asks (with_parts w q)) driver_is world) head
+      asking_of g fixed takes member x (released s its) (record { courses = a.courses; numbers = a.numbers }) v asks (driver_next w) (endpoint_release_whole fixed takes member x s w f row k)
+      (subst (λ (r : DriverRow). IsAskingWorld g fixed member (released s its) (record { courses = a.courses; numbers = a.numbers }) v asks (with_parts w (after_driver_row r (driver_parts w)))) (sym row) given) head
 
 pub endpoint_release_keeps_asking : EndpointReleaseKeepsAsking
 endpoint_release_keeps_asking g fixed takes member x s a v asks w f row head k z = given_back_world g fixed takes member x s a v asks w f row head k z

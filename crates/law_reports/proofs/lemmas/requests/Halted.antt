@@ -10,13 +10,9 @@ use Rattle.law_controller.proofs.Common.{here_among}
 use Rattle.law_reports.proofs.Common.{told_by, either_way, less_one}
 use Rattle.law_driver.proofs.Common.{waits_is}
 use Rattle.usb_base.specs.declared.endpoints.EndCause.{EndCause}
-use Rattle.usb_base.specs.declared.endpoints.EndCause.TheVariants as causes
 use Rattle.usb_base.specs.declared.endpoints.EpName.{EpName}
-use Rattle.usb_base.specs.declared.packets.EpKind.{EpKind}
-use Rattle.usb_base.specs.declared.packets.EpKind.TheVariants as kinds
 use Rattle.usb_base.specs.declared.reports.Report.{Report}
 use Rattle.usb_base.specs.declared.reports.What.{What}
-use Rattle.usb_base.specs.declared.reports.What.TheVariants as lines
 use Rattle.claims_base.specs.Prefix.{IsPrefix}
 use Rattle.qh_qtd.specs.declared.token.Token.{Token}
 use Rattle.bus_wire.specs.Bus.{Fixed}
@@ -24,12 +20,10 @@ use Rattle.drv_table.specs.declared.content.Endpoint.{Endpoint}
 use Rattle.drv_table.specs.declared.content.QtdNote.{QtdNote}
 use Rattle.drv_table.specs.declared.content.Transfer.{Transfer}
 use Rattle.drv_table.specs.declared.rows.Found.{Found}
-use Rattle.drv_table.specs.declared.rows.Found.TheVariants as founds
 use Rattle.drv_table.specs.DriverContent.{DriverContent, waits_for}
 use Rattle.drv_table.specs.Harvests.{note_at, noted, token_in, done_of, moved_of, halt_of, end_of, is_stall}
 use Rattle.drv_table.specs.Harvesting.{behind_one, behind as ended_behind, told_with, after_end}
 use Rattle.drv_table.specs.Releases.{ended_by_cancel}
-use Rattle.drv_table.specs.Words.{is_control}
 use Rattle.law_driver.specs.endpoint_lives.Lives.{told_end}
 use Rattle.law_driver.specs.run_owners.Due.{IsHarvestDue}
 use Rattle.law_driver.specs.chained_transfers.Out.{out_now}
@@ -61,20 +55,25 @@ use Rattle.law_reports.specs.requests.TransferChanges.{all_closed}
 use Rattle.law_reports.proofs.lemmas.requests.TransferChanging.{course_is_recorded, all_are_closed}
 use Rattle.law_reports.specs.requests.Telling.{IsTelling, behind}
 use Rattle.law_reports.proofs.lemmas.requests.Telling.{harvest_tells, stall_tells}
-use Rattle.law_world.specs.streams.Whole.{IsWhole}
 use Rattle.law_reports.specs.requests.Asking.{Sides, Asking, has_left, HasTelling, IsAskingWorld}
 use Rattle.law_reports.specs.requests.Reading.{AreSilent, IsAtRequest}
 use Rattle.law_reports.specs.requests.Ended.{ReadsFirst, ended_driver, RequestEnds, HaltEnds}
 use Rattle.law_reports.proofs.lemmas.requests.Reading.{found_is, read_is_moved, moved_begin}
 use Rattle.law_reports.proofs.lemmas.requests.Ended.{uncancelled_more, met, has, going, on, tells, piece_here, qtd_here, off, reads, uncancelled, kept, new_is, whole_is, tell, telling_first, closed_is}
+use Rattle.law_reports.specs.requests.Footing.{IsFooting}
+use Rattle.usb_base.specs.declared.endpoints.EndCause.TheVariants as causes
+use Rattle.usb_base.specs.declared.reports.What.TheVariants as lines
+use Rattle.drv_table.specs.declared.rows.Found.TheVariants as founds
 
 -- ---- lists
 
-count_cons : (e : ℕ) (y : Transfer) (ys : List Transfer) → count_by (waits_for e) (y ∷ ys) ≡ cond (waits_for e y) 1 0 + count_by (waits_for e) ys
+count_cons : (e : ℕ) (y : Transfer) (ys : List Transfer)
+    → count_by (waits_for e) (y ∷ ys) ≡ cond (waits_for e y) 1 0 + count_by (waits_for e) ys
 count_cons e y ys = sum_by-cons (λ z. cond (waits_for e z) 1 0) y ys
 
 -- where none before it waits
-count_front : (e : ℕ) (ts : List Transfer) (t : ℕ) (y : Transfer) → slice_get ts t ≡ Some y → waits_for e y ≡ true → ((i : ℕ) (z : Transfer) → i < t → slice_get ts i ≡ Some z → waits_for e z ≡ false)
+count_front : (e : ℕ) (ts : List Transfer) (t : ℕ) (y : Transfer) → slice_get ts t ≡ Some y → waits_for e y ≡ true
+    → ((i : ℕ) (z : Transfer) → i < t → slice_get ts i ≡ Some z → waits_for e z ≡ false)
     → count_by (waits_for e) ts ≡ suc (count_by (waits_for e) (drop (suc t) ts))
 count_front e [] t y here waits none = absurd cc
 count_front e (z ∷ ts) zero y here waits none =
@@ -89,13 +88,15 @@ count_front e (z ∷ ts) (suc t) y here waits none =
 
 -- ---- lines of those behind a stalled one
 
-one_behind : (d : DriverContent) (e : ℕ) (name : EpName) (k : ℕ) (o : Option Transfer) → has_cancel (lines_in name d.reports) ≡ false → has_cancel (lines_in name (behind_one d e name k o).reports) ≡ false
+one_behind : (d : DriverContent) (e : ℕ) (name : EpName) (k : ℕ) (o : Option Transfer) → has_cancel (lines_in name d.reports) ≡ false
+    → has_cancel (lines_in name (behind_one d e name k o).reports) ≡ false
 one_behind d e name k None before = before
 one_behind d e name k (Some y) before =
     either_way (λ (z : DriverContent). has_cancel (lines_in name z.reports) ≡ false) (waits_for e y) _ d
     (uncancelled_more name d.reports (record { name = name; what = lines.Halt causes.Stall; from = length d.store; len = length {A = ℕ} [] }) refl before) before
 
-all_behind : (d : DriverContent) (e : ℕ) (name : EpName) (k n : ℕ) → has_cancel (lines_in name d.reports) ≡ false → has_cancel (lines_in name (ended_behind d e name k n).reports) ≡ false
+all_behind : (d : DriverContent) (e : ℕ) (name : EpName) (k n : ℕ) → has_cancel (lines_in name d.reports) ≡ false
+    → has_cancel (lines_in name (ended_behind d e name k n).reports) ≡ false
 unfolding ended_behind
 all_behind d e name k zero before = before
 all_behind d e name k (suc n) before = all_behind (behind_one d e name k (slice_get d.transfers k)) e name (suc k) n (one_behind d e name k (slice_get d.transfers k) before)
@@ -111,7 +112,8 @@ is_done lines.Done = true
 is_done _ = false
 
 halted_by : (active halted last : Bool) (note : QtdNote) (t : Token)
-    → false ≡ is_done (what_in (if active then founds.Active else if halted then founds.Ended (moved_of note.told t.total) (halt_of t) else done_of (last || false) (moved_of note.told t.total))) → halted ≡ true
+    → false ≡ is_done (what_in (if active then founds.Active else if halted then founds.Ended (moved_of note.told t.total) (halt_of t) else done_of (last || false) (moved_of note.told t.total)))
+    → halted ≡ true
 halted_by true halted last note t is = absurd cc
 halted_by false true last note t is = refl
 halted_by false false true note t is = absurd cc
@@ -124,8 +126,9 @@ told_ended z c on ends = told_by (ended_by_cancel z.ended) z.cancelled (not z.go
 
 -- ---- the row
 
-module _ (g : Sides) (fixed : Fixed) (takes : ℕ → ℕ → Bool) (member : ℕ → Bool) (x : Streams) (s : Standing) (a : Asking) (v : Windows) (asks : ℕ → Request) (w : World) (e t m : ℕ) (cause : EndCause)
-    (due : IsHarvestDue (driver_parts w) e t (founds.Ended m (lines.Halt cause))) (control : due.endpoint.desc.kind ≡ kinds.Control) (k : IsWhole fixed takes member x s w) (silent : AreSilent w.driver) (j : IsAskingWorld g fixed member s a v asks w) where
+module _ (g : Sides) (fixed : Fixed) (member : ℕ → Bool) (x : Streams) (s : Standing) (a : Asking) (v : Windows) (asks : ℕ → Request)
+    (w : World) (e t m : ℕ) (cause : EndCause)
+    (due : IsHarvestDue (driver_parts w) e t (founds.Ended m (lines.Halt cause))) (control : g.asks due.endpoint.desc ≡ true) (k : IsFooting member x s w) (silent : AreSilent w.driver) (j : IsAskingWorld g fixed member s a v asks w) where
   abbrev place : ℕ
   place = 32 * due.endpoint.queue
 
@@ -142,10 +145,10 @@ module _ (g : Sides) (fixed : Fixed) (takes : ℕ → ℕ → Bool) (member : �
   ended_active same = cc
 
   first : ReadsFirst member s a w e t as_halted due
-  first = reads g fixed takes member x s a v asks w e t as_halted due control k silent j ended_active
+  first = reads g fixed member x s a v asks w e t as_halted due control k silent j ended_active
 
   is_off : (token_in w.memory due.transfer.place).active ≡ false
-  is_off = off g fixed takes member x s a v asks w e t as_halted due control k silent j ended_active
+  is_off = off g fixed member x s a v asks w e t as_halted due control k silent j ended_active
 
   is_halted : (token_in w.memory due.transfer.place).halted ≡ true
   is_halted =
@@ -154,71 +157,73 @@ module _ (g : Sides) (fixed : Fixed) (takes : ℕ → ℕ → Bool) (member : �
       (ap (λ (z : Found). is_done (what_in z)) found)
 
   -- the qTD was halted
-  halt : IsHalted (piece_here g fixed takes member x s a v asks w e t as_halted due control k silent j).qtd
+  halt : IsHalted (piece_here g fixed member x s a v asks w e t as_halted due control k silent j).qtd
   halt =
-      let u = (piece_here g fixed takes member x s a v asks w e t as_halted due control k silent j).qtd in
+      let u = (piece_here g fixed member x s a v asks w e t as_halted due control k silent j).qtd in
       let same : token_in w.memory due.transfer.place ≡ u.token =
-      token_is_read w.memory s.parts place due.transfer.place u (tells g fixed takes member x s a v asks w e t as_halted due control k silent j) (qtd_here g fixed takes member x s a v asks w e t as_halted due control k silent j) in
+      token_is_read w.memory s.parts place due.transfer.place u (tells g fixed member x s a v asks w e t as_halted due control k silent j) (qtd_here g fixed member x s a v asks w e t as_halted due control k silent j) in
       record { done = ap (λ (z : Token). z.active) (sym same) ∙ is_off; halted = ap (λ (z : Token). z.halted) (sym same) ∙ is_halted }
 
   among_by : (b : Bool) → is_stall (lines.Halt cause) ≡ b → IsAmong (32 * due.transfer.place) (out_now w.driver e)
   among_by true is =
       let stall : IsStall due.endpoint.desc.kind as_halted = (is, stall_goes cause is) in
-      let l = stall_stands (driver_parts w) e t as_halted member x.streams x.endpoint s.parts s.order s.out due stall k.feeding.working.place.sound.owners k.feeding.turns k.feeding.queues in
+      let l = stall_stands (driver_parts w) e t as_halted member x.streams x.endpoint s.parts s.order s.out due stall k.owners k.turns k.queues in
       subst (IsAmong (32 * due.transfer.place)) (sym l.stalled.was) (here_among (32 * due.transfer.place) l.stalled.before l.stalled.behind)
     where
       stall_goes : (c : EndCause) → is_stall (lines.Halt c) ≡ true → end_of due.endpoint.desc.kind (lines.Halt c) ≡ None
-      stall_goes causes.Stall is = ap (λ (b : EpKind). if is_control b then None else Some causes.Stall) control
+      stall_goes causes.Stall is = ap (λ (b : Bool). if b then None else Some causes.Stall) (g.controls due.endpoint.desc control)
       stall_goes causes.Error is = absurd cc
       stall_goes causes.Babble is = absurd cc
       stall_goes causes.Miss is = absurd cc
       stall_goes causes.Cancel is = absurd cc
   among_by false is =
-      let l = unstalled_stands (driver_parts w) e t as_halted member x.streams x.endpoint s.parts s.order s.out due ended_active (λ stall. false≢true (sym is ∙ stall.0)) k.feeding.working.place.sound.owners k.feeding.turns k.feeding.queues in
+      let l = unstalled_stands (driver_parts w) e t as_halted member x.streams x.endpoint s.parts s.order s.out due ended_active (λ stall. false≢true (sym is ∙ stall.0)) k.owners k.turns k.queues in
       subst (IsAmong (32 * due.transfer.place)) (sym l.harvested.was) (here_among (32 * due.transfer.place) l.harvested.before l.harvested.behind)
 
   stopped : IsStopped s.parts place
   stopped =
-      let onto = on g fixed takes member x s a v asks w e t as_halted due control k silent j in
-      let meets = met g fixed takes member x s a v asks w e t as_halted due control k silent j in
+      let onto = on g fixed member x s a v asks w e t as_halted due control k silent j in
+      let meets = met g fixed member x s a v asks w e t as_halted due control k silent j in
       let among : IsAmong (32 * due.transfer.place) (s.out place) =
-      subst (IsAmong (32 * due.transfer.place)) (sym (k.feeding.queues.out_are e due.endpoint due.here meets.there)) (among_by (is_stall (lines.Halt cause)) refl) in
+      subst (IsAmong (32 * due.transfer.place)) (sym (k.queues.out_are e due.endpoint due.here meets.there)) (among_by (is_stall (lines.Halt cause)) refl) in
       record {
         queue = onto.queue;
         head = onto.here;
-        halted = (k.feeding.controls.stops e due.endpoint due.here meets).head (32 * due.transfer.place) (piece_here g fixed takes member x s a v asks w e t as_halted due control k silent j).qtd onto.queue among
-            (qtd_here g fixed takes member x s a v asks w e t as_halted due control k silent j) halt onto.here;
+        halted = (k.controls.stops e due.endpoint due.here meets).head (32 * due.transfer.place) (piece_here g fixed member x s a v asks w e t as_halted due control k silent j).qtd onto.queue among
+            (qtd_here g fixed member x s a v asks w e t as_halted due control k silent j) halt onto.here;
       }
 
   abbrev rest_of : List ℕ
   rest_of = first_of (λ i. (a.numbers (32 * due.endpoint.queue)).number (suc i)) ((a.numbers (32 * due.endpoint.queue)).requests.count - 1)
 
   abbrev before_told : HasTelling w.driver asks e due.endpoint g.whole v its_numbers
-  before_told = tell g fixed takes member x s a v asks w e t as_halted due control k silent j
+  before_told = tell g fixed member x s a v asks w e t as_halted due control k silent j
 
   all_are : its_numbers.closed ++ first_of its_numbers.number its_numbers.requests.count ≡ before_told.reported ++ t ∷ rest_of
   all_are =
       let more : 0 < its_numbers.requests.count = let c = first.count in let some = first.some in omega (arith, c, some) in
-      ap (λ (ts : List ℕ). ts ++ first_of its_numbers.number its_numbers.requests.count) (closed_is g fixed takes member x s a v asks w e t as_halted due control k silent j)
+      ap (λ (ts : List ℕ). ts ++ first_of its_numbers.number its_numbers.requests.count) (closed_is g fixed member x s a v asks w e t as_halted due control k silent j)
       ∙ ap (λ (ts : List ℕ). before_told.reported ++ ts) (less_one its_numbers.number its_numbers.requests.count more ∙ ap (λ (i : ℕ). i ∷ rest_of) first.number)
 
-  module _ (q : Queue) (b : ℕ) (l : Lines) (asked : a.courses (32 * due.endpoint.queue) ≡ Asks q b l) (at : IsAtRequest member (driver_parts w) e t as_halted due s.parts s.hand (q.requests 0) (q.places 0)) where
+  module _ (q : Queue) (b : ℕ) (l : Lines) (asked : a.courses (32 * due.endpoint.queue) ≡ Asks q b l)
+      (at : IsAtRequest member (driver_parts w) e t as_halted due s.parts s.hand (q.requests 0) (q.places 0)) where
     stands : IsAsking q b l s.hand s.parts place (control_of (wired fixed w) q.endpoint.addr q.endpoint.num)
     stands = subst (IsCourse control_of s.parts s.hand (wired fixed w) place) asked (j.stand.each place)
 
     was : IsRecord new asks place (Asks q b l) its_numbers v
     was = subst (λ (c : Course). IsRecord new asks place c its_numbers v) asked
-        ((kept g fixed takes member x s a v asks w e t as_halted due control k silent j).each place (has g fixed takes member x s a v asks w e t as_halted due control k silent j).queue)
+        ((kept g fixed member x s a v asks w e t as_halted due control k silent j).each place (has g fixed member x s a v asks w e t as_halted due control k silent j).queue)
 
     begins : IsPrefix (bytes_with (driver_parts w) due.transfer m) (g.whole due.endpoint.desc.name (asks t))
     begins =
         let whole : g.whole due.endpoint.desc.name (asks t) ≡ data_of q.endpoint (q.requests 0) =
-        whole_is g fixed takes member x s a v asks w e t as_halted due control k silent j ∙ ap (λ (z : Queue). data_of z.endpoint (z.requests 0)) (ap queue_in asked) in
+        whole_is g fixed member x s a v asks w e t as_halted due control k silent j ∙ ap (λ (z : Queue). data_of z.endpoint (z.requests 0)) (ap queue_in asked) in
         subst (IsPrefix (bytes_with (driver_parts w) due.transfer m)) (sym whole)
         (moved_begin q l s.hand s.parts place due.transfer.left (control_of (wired fixed w) q.endpoint.addr q.endpoint.num) (bytes_with (driver_parts w) due.transfer m) stands.queue
         (read_is_moved member (driver_parts w) e t m (lines.Halt cause) due s.parts s.hand (q.requests 0) (q.places 0) at))
 
-    pub halts : (c : Option EndCause) → HasTelling new asks e (record due.endpoint { ended = c }) g.whole v (all_closed its_numbers) → RequestEnds g fixed member s a v asks w new e (record due.endpoint { ended = c }) (all_closed (a.numbers (32 * due.endpoint.queue)))
+    pub halts : (c : Option EndCause) → HasTelling new asks e (record due.endpoint { ended = c }) g.whole v (all_closed its_numbers)
+        → RequestEnds g fixed member s a v asks w new e (record due.endpoint { ended = c }) (all_closed (a.numbers (32 * due.endpoint.queue)))
     halts c told = record {
       course = Rests (without_requests q) b (l.line l.under).device;
       queue = refl;
@@ -226,17 +231,18 @@ module _ (g : Sides) (fixed : Fixed) (takes : ℕ → ℕ → Bool) (member : �
       tail = ap tail_in (sym asked);
       count = refl;
       rests = λ none. refl;
-      stand = request_halts control_of member a.courses s.parts s.hand (walk_place (controller_parts w)).walk.reply (wired fixed w) place b q l asked at.on k.feeding.working.streaming.controlled.ring.in_hand stopped j.stand;
-      records = course_is_recorded new asks a.courses a.numbers (has_left w.driver) v place (Rests (without_requests q) b (l.line l.under).device) (all_closed its_numbers)
+      stand = request_halts control_of member a.courses s.parts s.hand (walk_place (controller_parts w)).walk.reply (wired fixed w) place b q l asked at.on k.in_hand stopped j.stand;
+      records = course_is_recorded new asks a.courses a.numbers (has_left g w.driver) v place (Rests (without_requests q) b (l.line l.under).device) (all_closed its_numbers)
           (all_are_closed new asks place b q l (l.line l.under).device its_numbers v s.hand s.parts (control_of (wired fixed w) q.endpoint.addr q.endpoint.num) stands.queue was)
-          (kept g fixed takes member x s a v asks w e t as_halted due control k silent j);
+          (kept g fixed member x s a v asks w e t as_halted due control k silent j);
       telling = told;
     }
 
   begins_whole : IsPrefix (bytes_with (driver_parts w) due.transfer m) (g.whole due.endpoint.desc.name (asks t))
   begins_whole = begins first.queue first.tail first.lines first.asked first.at
 
-  pub halt_leaves : (c : Option EndCause) → HasTelling new asks e (record due.endpoint { ended = c }) g.whole v (all_closed its_numbers) → RequestEnds g fixed member s a v asks w new e (record due.endpoint { ended = c }) (all_closed (a.numbers (32 * due.endpoint.queue)))
+  pub halt_leaves : (c : Option EndCause) → HasTelling new asks e (record due.endpoint { ended = c }) g.whole v (all_closed its_numbers)
+      → RequestEnds g fixed member s a v asks w new e (record due.endpoint { ended = c }) (all_closed (a.numbers (32 * due.endpoint.queue)))
   halt_leaves c told = halts first.queue first.tail first.lines first.asked first.at c told
 
   abbrev line : Report
@@ -255,12 +261,12 @@ module _ (g : Sides) (fixed : Fixed) (takes : ℕ → ℕ → Bool) (member : �
     reported = before_told.reported ++ t ∷ [];
     untold = rest_of;
     closed = all_are ∙ sym (append_assoc before_told.reported (t ∷ []) rest_of);
-    going = λ goes. absurd (some_end (sym (told_ended (record due.endpoint { ended = end_of due.endpoint.desc.kind (lines.Halt cause) }) cause (uncancelled g fixed takes member x s a v asks w e t as_halted due control k silent j) ends) ∙ goes));
-    uncancelled = subst (λ (d : DriverContent). has_cancel (lines_in due.endpoint.desc.name d.reports) ≡ false) (sym (new_is g fixed takes member x s a v asks w e t as_halted due control k silent j))
+    going = λ goes. absurd (some_end (sym (told_ended (record due.endpoint { ended = end_of due.endpoint.desc.kind (lines.Halt cause) }) cause (uncancelled g fixed member x s a v asks w e t as_halted due control k silent j) ends) ∙ goes));
+    uncancelled = subst (λ (d : DriverContent). has_cancel (lines_in due.endpoint.desc.name d.reports) ≡ false) (sym (new_is g fixed member x s a v asks w e t as_halted due control k silent j))
         (subst (λ (o : Option EndCause). has_cancel (lines_in due.endpoint.desc.name (after_end told_driver e t due.endpoint (is_stall (lines.Halt cause)) o).reports) ≡ false) (sym ends) one_told);
     telling = subst (IsTelling new asks e due.endpoint.desc.name (g.whole due.endpoint.desc.name) v (before_told.reported ++ t ∷ [])) (sym (append-nil rest_of))
         (harvest_tells (driver_parts w) t m (lines.Halt cause) due.endpoint due.transfer asks e t (g.whole due.endpoint.desc.name) v before_told.reported rest_of
-        (record { here = due.here; there = due.there; waits = due.waits }) no_stall refl refl begins_whole (telling_first g fixed takes member x s a v asks w e t as_halted due control k silent j));
+        (record { here = due.here; there = due.there; waits = due.waits }) no_stall refl refl begins_whole (telling_first g fixed member x s a v asks w e t as_halted due control k silent j));
   }
     where
       some_end : Some cause ≡ None → ⊥
@@ -273,7 +279,7 @@ module _ (g : Sides) (fixed : Fixed) (takes : ℕ → ℕ → Bool) (member : �
       next : IsNext (turn_in w.driver.transfers) e t
       next =
           subst (λ (o : Option ℕ). AreReportedTo (turn_in w.driver.transfers) e o) due.next
-          (k.feeding.turns.turns.turns.next e due.endpoint due.here (going g fixed takes member x s a v asks w e t as_halted due control k silent j))
+          (k.turns.turns.turns.next e due.endpoint due.here (going g fixed member x s a v asks w e t as_halted due control k silent j))
 
       by : (b : Bool) → waits_for e z ≡ b → b ≡ false
       by true waits = let both = waits_is e z waits in absurd (false≢true (sym both.1 ∙ next.before i (turn_of z) less (ap (option_map turn_of) there) both.0))
@@ -281,15 +287,16 @@ module _ (g : Sides) (fixed : Fixed) (takes : ℕ → ℕ → Bool) (member : �
 
   behind_is : length rest_of ≡ behind (driver_parts w) e t
   behind_is =
-      let first_told = telling_first g fixed takes member x s a v asks w e t as_halted due control k silent j in
+      let first_told = telling_first g fixed member x s a v asks w e t as_halted due control k silent j in
       let waits = first_told.wait in
       let front = count_front e w.driver.transfers t due.transfer due.there due.waits none_before in
       omega (arith, waits, front)
 
 -- ---- a STALL
 
-module _ (g : Sides) (fixed : Fixed) (takes : ℕ → ℕ → Bool) (member : ℕ → Bool) (x : Streams) (s : Standing) (a : Asking) (v : Windows) (asks : ℕ → Request) (w : World) (e t m : ℕ)
-    (due : IsHarvestDue (driver_parts w) e t (founds.Ended m (lines.Halt causes.Stall))) (control : due.endpoint.desc.kind ≡ kinds.Control) (k : IsWhole fixed takes member x s w) (silent : AreSilent w.driver) (j : IsAskingWorld g fixed member s a v asks w) where
+module _ (g : Sides) (fixed : Fixed) (member : ℕ → Bool) (x : Streams) (s : Standing) (a : Asking) (v : Windows) (asks : ℕ → Request)
+    (w : World) (e t m : ℕ)
+    (due : IsHarvestDue (driver_parts w) e t (founds.Ended m (lines.Halt causes.Stall))) (control : g.asks due.endpoint.desc ≡ true) (k : IsFooting member x s w) (silent : AreSilent w.driver) (j : IsAskingWorld g fixed member s a v asks w) where
   abbrev stalled_found : Found
   stalled_found = founds.Ended m (lines.Halt causes.Stall)
 
@@ -297,13 +304,13 @@ module _ (g : Sides) (fixed : Fixed) (takes : ℕ → ℕ → Bool) (member : �
   left = first_of (λ i. (a.numbers (32 * due.endpoint.queue)).number (suc i)) ((a.numbers (32 * due.endpoint.queue)).requests.count - 1)
 
   goes : end_of due.endpoint.desc.kind (lines.Halt causes.Stall) ≡ None
-  goes = ap (λ (b : EpKind). if is_control b then None else Some causes.Stall) control
+  goes = ap (λ (b : Bool). if b then None else Some causes.Stall) (g.controls due.endpoint.desc control)
 
   abbrev was_told : HasTelling w.driver asks e due.endpoint g.whole v (a.numbers (32 * due.endpoint.queue))
-  was_told = before_told g fixed takes member x s a v asks w e t m causes.Stall due control k silent j
+  was_told = before_told g fixed member x s a v asks w e t m causes.Stall due control k silent j
 
   size : length left ≡ behind (driver_parts w) e t
-  size = behind_is g fixed takes member x s a v asks w e t m causes.Stall due control k silent j
+  size = behind_is g fixed member x s a v asks w e t m causes.Stall due control k silent j
 
   pub stall_told_all : HasTelling (ended_driver w e t (founds.Ended m (lines.Halt causes.Stall))) asks e (record due.endpoint { ended = end_of due.endpoint.desc.kind (lines.Halt causes.Stall) }) g.whole v (all_closed (a.numbers (32 * due.endpoint.queue)))
   stall_told_all =
@@ -313,25 +320,25 @@ module _ (g : Sides) (fixed : Fixed) (takes : ℕ → ℕ → Bool) (member : �
       record {
         reported = was_told.reported ++ t ∷ left;
         untold = [];
-        closed = all_are g fixed takes member x s a v asks w e t m causes.Stall due control k silent j ∙ sym (append-nil (was_told.reported ++ t ∷ left));
+        closed = all_are g fixed member x s a v asks w e t m causes.Stall due control k silent j ∙ sym (append-nil (was_told.reported ++ t ∷ left));
         going = λ is. refl;
-        uncancelled = subst (λ (d : DriverContent). has_cancel (lines_in due.endpoint.desc.name d.reports) ≡ false) (sym (new_is g fixed takes member x s a v asks w e t stalled_found due control k silent j))
-            (subst (λ (o : Option EndCause). has_cancel (lines_in due.endpoint.desc.name (after_end (told_driver g fixed takes member x s a v asks w e t m causes.Stall due control k silent j) e t due.endpoint true o).reports) ≡ false) (sym goes)
-            (all_behind _ e due.endpoint.desc.name (suc t) _ (one_told g fixed takes member x s a v asks w e t m causes.Stall due control k silent j)));
+        uncancelled = subst (λ (d : DriverContent). has_cancel (lines_in due.endpoint.desc.name d.reports) ≡ false) (sym (new_is g fixed member x s a v asks w e t stalled_found due control k silent j))
+            (subst (λ (o : Option EndCause). has_cancel (lines_in due.endpoint.desc.name (after_end (told_driver g fixed member x s a v asks w e t m causes.Stall due control k silent j) e t due.endpoint true o).reports) ≡ false) (sym goes)
+            (all_behind _ e due.endpoint.desc.name (suc t) _ (one_told g fixed member x s a v asks w e t m causes.Stall due control k silent j)));
         telling = subst (λ (ts : List ℕ). IsTelling (ended_driver w e t stalled_found) asks e due.endpoint.desc.name (g.whole due.endpoint.desc.name) v (was_told.reported ++ t ∷ ts) []) all
             (subst (IsTelling (ended_driver w e t stalled_found) asks e due.endpoint.desc.name (g.whole due.endpoint.desc.name) v (was_told.reported ++ t ∷ take b left)) none
             (stall_tells (driver_parts w) t m due.endpoint due.transfer asks e t (g.whole due.endpoint.desc.name) v was_told.reported left (record { here = due.here; there = due.there; waits = due.waits })
-            (ap is_control control) (begins_whole g fixed takes member x s a v asks w e t m causes.Stall due control k silent j) (telling_first g fixed takes member x s a v asks w e t stalled_found due control k silent j)));
+            (g.controls due.endpoint.desc control) (begins_whole g fixed member x s a v asks w e t m causes.Stall due control k silent j) (telling_first g fixed member x s a v asks w e t stalled_found due control k silent j)));
       }
 
 pub halt_ends : HaltEnds
-halt_ends g fixed takes member x s a v asks w e t m causes.Stall due control k silent j =
-    halt_leaves g fixed takes member x s a v asks w e t m causes.Stall due control k silent j (end_of due.endpoint.desc.kind (lines.Halt causes.Stall)) (stall_told_all g fixed takes member x s a v asks w e t m due control k silent j)
-halt_ends g fixed takes member x s a v asks w e t m causes.Error due control k silent j =
-    halt_leaves g fixed takes member x s a v asks w e t m causes.Error due control k silent j (Some causes.Error) (error_told g fixed takes member x s a v asks w e t m causes.Error due control k silent j refl refl)
-halt_ends g fixed takes member x s a v asks w e t m causes.Babble due control k silent j =
-    halt_leaves g fixed takes member x s a v asks w e t m causes.Babble due control k silent j (Some causes.Babble) (error_told g fixed takes member x s a v asks w e t m causes.Babble due control k silent j refl refl)
-halt_ends g fixed takes member x s a v asks w e t m causes.Miss due control k silent j =
-    halt_leaves g fixed takes member x s a v asks w e t m causes.Miss due control k silent j (Some causes.Miss) (error_told g fixed takes member x s a v asks w e t m causes.Miss due control k silent j refl refl)
-halt_ends g fixed takes member x s a v asks w e t m causes.Cancel due control k silent j =
-    halt_leaves g fixed takes member x s a v asks w e t m causes.Cancel due control k silent j (Some causes.Cancel) (error_told g fixed takes member x s a v asks w e t m causes.Cancel due control k silent j refl refl)
+halt_ends g fixed member x s a v asks w e t m causes.Stall due control k silent j =
+    halt_leaves g fixed member x s a v asks w e t m causes.Stall due control k silent j (end_of due.endpoint.desc.kind (lines.Halt causes.Stall)) (stall_told_all g fixed member x s a v asks w e t m due control k silent j)
+halt_ends g fixed member x s a v asks w e t m causes.Error due control k silent j =
+    halt_leaves g fixed member x s a v asks w e t m causes.Error due control k silent j (Some causes.Error) (error_told g fixed member x s a v asks w e t m causes.Error due control k silent j refl refl)
+halt_ends g fixed member x s a v asks w e t m causes.Babble due control k silent j =
+    halt_leaves g fixed member x s a v asks w e t m causes.Babble due control k silent j (Some causes.Babble) (error_told g fixed member x s a v asks w e t m causes.Babble due control k silent j refl refl)
+halt_ends g fixed member x s a v asks w e t m causes.Miss due control k silent j =
+    halt_leaves g fixed member x s a v asks w e t m causes.Miss due control k silent j (Some causes.Miss) (error_told g fixed member x s a v asks w e t m causes.Miss due control k silent j refl refl)
+halt_ends g fixed member x s a v asks w e t m causes.Cancel due control k silent j =
+    halt_leaves g fixed member x s a v asks w e t m causes.Cancel due control k silent j (Some causes.Cancel) (error_told g fixed member x s a v asks w e t m causes.Cancel due control k silent j refl refl)

@@ -6,14 +6,12 @@ use Rattle.usb_base.specs.declared.endpoints.EpDesc.{EpDesc}
 use Rattle.usb_base.specs.declared.endpoints.EpName.{EpName}
 use Rattle.bus_wire.specs.Bus.{Fixed}
 use Rattle.drv_table.specs.declared.content.Command.{Command}
-use Rattle.drv_table.specs.declared.content.Command.TheVariants as unfinished
 use Rattle.drv_table.specs.declared.content.Endpoint.{Endpoint}
 use Rattle.drv_table.specs.declared.content.Mend.{Mend}
 use Rattle.drv_table.specs.declared.content.Transfer.{Transfer}
 use Rattle.drv_table.specs.DriverContent.{DriverContent}
 use Rattle.drv_table.specs.Harvests.{note_at}
 use Rattle.drv_table.specs.Parts.{Parts}
-use Rattle.drv_table.specs.Words.{is_control}
 use Rattle.law_driver.specs.endpoint_lives.Lives.{told_end, may_meet}
 use Rattle.law_queues.specs.told_endpoints.Telling.{lines_in}
 use Rattle.law_reports.specs.requests.told_requests.Told.{has_cancel}
@@ -23,14 +21,15 @@ use Rattle.claims_report.specs.Controls.{control_of}
 use Rattle.bus_world.specs.World.{World, with_parts}
 use Rattle.law_world.specs.steps.Streaming.{Standing}
 use Rattle.claims_world.specs.Requests.{wired, Windows, numbers_of, is_opening}
-use Rattle.law_reports.specs.requests.Courses.{Course, queue_in, CoursesStand}
+use Rattle.law_reports.specs.requests.Courses.{Course, queue_in, CoursesStand, have_queues}
 use Rattle.law_reports.specs.requests.Records.{Numbers, AreRecords}
 use Rattle.law_reports.specs.requests.Counts.{counted_all}
 use Rattle.law_reports.specs.requests.Telling.{IsTelling}
 use Rattle.law_queues.specs.standing_fronts.Tails.{tail_block, tail_of}
 use Rattle.law_reports.specs.requests.Asking.{Sides, IsGiven, Asking, has_left, is_publishing, is_next_of, HasCourse, IsReadTo, HasTelling, IsCounted, IsUnopened, IsUnheard, IsControlOf, IsMetControl, IsAskingWorld}
 use Rattle.law_reports.specs.requests.Missed.{NoneMissed, MissesNone, PublishesNone}
-use Rattle.law_reports.proofs.lemmas.requests.Missed.{none_published, open_published, unlink_published}
+use Rattle.law_reports.proofs.lemmas.requests.Missed.{none_published, open_published, unlink_published, narrow_unmissed, narrow_misses}
+use Rattle.drv_table.specs.declared.content.Command.TheVariants as unfinished
 
 -- ---- no transfer is being published
 
@@ -78,7 +77,8 @@ pub record WasEndpoint (d : DriverContent) (e : ℕ) (x : Endpoint) : Type 0 whe
   pub ended : x.gone ≡ false → told_end was ≡ told_end x
   pub kept : x.gone ≡ false → was.gone ≡ false
 
-unfoldable pub same_endpoint : (d c : DriverContent) → c.endpoints ≡ d.endpoints → (e : ℕ) (x : Endpoint) → slice_get c.endpoints e ≡ Some x → WasEndpoint d e x
+unfoldable pub same_endpoint : (d c : DriverContent) → c.endpoints ≡ d.endpoints → (e : ℕ) (x : Endpoint) → slice_get c.endpoints e ≡ Some x
+    → WasEndpoint d e x
 same_endpoint d c same e x here = record {
   was = x;
   here = sym (ap (λ (xs : List Endpoint). slice_get xs e) same) ∙ here;
@@ -104,15 +104,16 @@ pub record RowLeaves (d c : DriverContent) : Type 0 where
   pub still : (e : ℕ) (x : Endpoint) → slice_get d.endpoints e ≡ Some x → IsEndpointStill c e x
   pub opening : (e : ℕ) (x : Endpoint) → (here : slice_get c.endpoints e ≡ Some x) → is_opening c x ≡ is_opening d (was e x here).was
   pub linked : (b : ℕ) → c.command ≢ Some (unfinished.Open b) → d.command ≢ Some (unfinished.Open b)
-  pub near : (e : ℕ) (x : Endpoint) → (here : slice_get c.endpoints e ≡ Some x) → may_meet c e x ≡ true → may_meet d e (was e x here).was ≡ true
+  pub near : (e : ℕ) (x : Endpoint) → (here : slice_get c.endpoints e ≡ Some x) → may_meet c e x ≡ true
+      → may_meet d e (was e x here).was ≡ true
   pub mends : (i : ℕ) (m : Mend) → slice_get c.mends i ≡ Some m → (j : ℕ) × slice_get d.mends j ≡ Some m
   pub numbers : (e : ℕ) → numbers_of c e ≡ numbers_of d e
 
-module _ (d c : DriverContent) (k : RowLeaves d c) where
-  pub was_control : (e : ℕ) (x : Endpoint) → (m : IsControlOf c e x) → IsControlOf d e (k.was e x m.here).was
-  was_control e x m = record { here = (k.was e x m.here).here; control = ap (λ (y : EpDesc). is_control y.kind) (k.was e x m.here).desc ∙ m.control }
+module _ (g : Sides) (d c : DriverContent) (k : RowLeaves d c) where
+  pub was_control : (e : ℕ) (x : Endpoint) → (m : IsControlOf g c e x) → IsControlOf g d e (k.was e x m.here).was
+  was_control e x m = record { here = (k.was e x m.here).here; control = ap (λ (y : EpDesc). g.asks y) (k.was e x m.here).desc ∙ m.control }
 
-  pub was_met : (e : ℕ) (x : Endpoint) → (m : IsMetControl c e x) → IsMetControl d e (k.was e x m.is.here).was
+  pub was_met : (e : ℕ) (x : Endpoint) → (m : IsMetControl g c e x) → IsMetControl g d e (k.was e x m.is.here).was
   was_met e x m = record {
     is = was_control e x m.is;
     met = record {
@@ -124,8 +125,9 @@ module _ (d c : DriverContent) (k : RowLeaves d c) where
     };
   }
 
-  pub course_was : (g : Sides) (e : ℕ) (x : Endpoint) (q : Course) (a : Numbers) → (here : slice_get c.endpoints e ≡ Some x) → x.gone ≡ false → HasCourse g d e (k.was e x here).was q a → HasCourse g c e x q a
-  course_was g e x q a here held h =
+  pub course_was : (e : ℕ) (x : Endpoint) (q : Course) (a : Numbers) → (here : slice_get c.endpoints e ≡ Some x) → x.gone ≡ false
+      → HasCourse g d e (k.was e x here).was q a → HasCourse g c e x q a
+  course_was e x q a here held h =
       let y = k.was e x here in
       record {
         queue = h.queue;
@@ -154,20 +156,24 @@ module _ (d c : DriverContent) (k : RowLeaves d c) where
   unheard_was : (name : EpName) → IsUnheard c name → IsUnheard d name
   unheard_was name u e x here same = let y = k.still e x here in opening_was e x here ∙ u e y.now y.here (ap (λ (t : EpDesc). t.name) y.desc ∙ same)
 
+-- ---- what is recorded of those that are gone
+
 -- ---- the world
 
 pub record LinesLeave (d c : DriverContent) (asks : ℕ → Request) (v : Windows) (e : ℕ) (name : EpName) (whole : Request → List ℕ) : Type 0 where
   pub lines : lines_in name c.reports ≡ lines_in name d.reports
   pub telling : (reported waits : List ℕ) → IsTelling d asks e name whole v reported waits → IsTelling c asks e name whole v reported waits
 
-module _ (g : Sides) (fixed : Fixed) (member : ℕ → Bool) (s : Standing) (a : Asking) (v : Windows) (asks : ℕ → Request) (w : World) (q : Parts) (k : RowLeaves w.driver q.driver) (z : IsAskingWorld g fixed member s a v asks w) where
-  module _ (tells : (e : ℕ) (x : Endpoint) → IsMetControl q.driver e x → LinesLeave w.driver q.driver asks v e x.desc.name (g.whole x.desc.name))
+module _ (g : Sides) (fixed : Fixed) (member : ℕ → Bool) (s : Standing) (a : Asking) (v : Windows) (asks : ℕ → Request) (w : World)
+    (q : Parts) (k : RowLeaves w.driver q.driver) (z : IsAskingWorld g fixed member s a v asks w) where
+  module _ (tells : (e : ℕ) (x : Endpoint) → IsMetControl g q.driver e x → LinesLeave w.driver q.driver asks v e x.desc.name (g.whole x.desc.name))
       (lines : (name : EpName) → IsUnheard q.driver name → lines_in name q.driver.reports ≡ lines_in name w.driver.reports) where
-    tells_still : (e : ℕ) (x : Endpoint) → (m : IsMetControl q.driver e x) → x.cancelled ≡ false → HasTelling q.driver asks e x g.whole v (a.numbers (32 * x.queue))
+    tells_still : (e : ℕ) (x : Endpoint) → (m : IsMetControl g q.driver e x) → x.cancelled ≡ false
+        → HasTelling q.driver asks e x g.whole v (a.numbers (32 * x.queue))
     tells_still e x m going =
         let y = k.was e x m.is.here in
         let h : HasTelling w.driver asks e y.was g.whole v (a.numbers (32 * x.queue)) =
-        subst (λ (b : ℕ). HasTelling w.driver asks e y.was g.whole v (a.numbers (32 * b))) y.queue (z.telling e y.was (was_met w.driver q.driver k e x m) (y.cancelled ∙ going)) in
+        subst (λ (b : ℕ). HasTelling w.driver asks e y.was g.whole v (a.numbers (32 * b))) y.queue (z.telling e y.was (was_met g w.driver q.driver k e x m) (y.cancelled ∙ going)) in
         let l : LinesLeave w.driver q.driver asks v e x.desc.name (g.whole x.desc.name) = tells e x m in
         record {
           reported = h.reported;
@@ -180,10 +186,11 @@ module _ (g : Sides) (fixed : Fixed) (member : ℕ → Bool) (s : Standing) (a :
               (subst (λ (t : EpDesc). IsTelling w.driver asks e t.name (g.whole t.name) v h.reported (h.untold ++ first_of (a.numbers (32 * x.queue)).number (a.numbers (32 * x.queue)).requests.count)) y.desc h.telling);
         }
 
-    counts_still : (e : ℕ) (x : Endpoint) → IsControlOf q.driver e x → is_opening q.driver x ≡ false → IsCounted fixed (with_parts w q) v e x
+    counts_still : (e : ℕ) (x : Endpoint) → IsControlOf g q.driver e x → is_opening q.driver x ≡ false
+        → IsCounted fixed (with_parts w q) v e x
     counts_still e x m off =
         let y = k.was e x m.here in
-        let c = z.counts e y.was (was_control w.driver q.driver k e x m) (sym (k.opening e x m.here) ∙ off) in
+        let c = z.counts e y.was (was_control g w.driver q.driver k e x m) (sym (k.opening e x m.here) ∙ off) in
         record {
           device = c.device;
           is = ap (λ (t : EpDesc). control_of (wired fixed w) t.name.addr t.name.num) (sym y.desc) ∙ c.is;
@@ -191,29 +198,40 @@ module _ (g : Sides) (fixed : Fixed) (member : ℕ → Bool) (s : Standing) (a :
         }
 
     -- of the queues and of what is read it is told apart
-    pub world_left : (wider : ℕ → Bool) (later : Standing) (courses : ℕ → Course) → NoneMissed later.parts → MissesNone later.hand → CoursesStand control_of wider courses later.parts later.hand (wired fixed w)
-        → AreRecords q.driver asks courses a.numbers (has_left q.driver) v
-        → ((e : ℕ) (x : Endpoint) → IsMetControl q.driver e x → HasCourse g q.driver e x (courses (32 * x.queue)) (a.numbers (32 * x.queue)))
-        → ((e t : ℕ) (x : Endpoint) (y : Transfer) → IsMetControl q.driver e x → told_end x ≡ None → x.next ≡ Some t → slice_get q.driver.transfers t ≡ Some y
+    pub world_left : (wider : ℕ → Bool) (later : Standing) (courses : ℕ → Course)
+        → ((n : ℕ) → have_queues courses n ≡ true → have_queues a.courses n ≡ true)
+        → NoneMissed (have_queues a.courses) later.parts → MissesNone (have_queues a.courses) later.hand
+        → CoursesStand control_of wider courses later.parts later.hand (wired fixed w)
+        → AreRecords q.driver asks courses a.numbers (has_left g q.driver) v
+        → ((e : ℕ) (x : Endpoint) → IsMetControl g q.driver e x → HasCourse g q.driver e x (courses (32 * x.queue)) (a.numbers (32 * x.queue)))
+        → ((e t : ℕ) (x : Endpoint) (y : Transfer) → IsMetControl g q.driver e x → told_end x ≡ None → x.next ≡ Some t → slice_get q.driver.transfers t ≡ Some y
         → IsReadTo later.hand later.parts (32 * x.queue) (note_at q.driver.notes) y ((a.numbers (32 * x.queue)).requests.requests 0))
         → IsAskingWorld g fixed wider later (record { courses = courses; numbers = a.numbers }) v asks (with_parts w q)
-    world_left wider later courses none none_held stand records each read = record {
+    world_left wider later courses had none none_held stand records each read = record {
       stand = stand;
       records = records;
       each = each;
+      asked = λ n y has here.
+          let b : WasEndpoint w.driver (a.numbers n).endpoint y = k.was (a.numbers n).endpoint y here in
+          subst (λ (t : EpDesc). g.asks t ≡ true) b.desc (z.asked n b.was (had n has) b.here);
       publishing = λ e x m next. absurd (false≢true (sym (k.quiet_now.none e) ∙ next));
       read = read;
       telling = tells_still;
-      given = λ e x m. subst (IsGiven g) (k.was e x m.here).desc (z.given e (k.was e x m.here).was (was_control w.driver q.driver k e x m));
+      given = λ e x m. subst (IsGiven g) (k.was e x m.here).desc (z.given e (k.was e x m.here).was (was_control g w.driver q.driver k e x m));
       counts = counts_still;
-      unopened = λ addr num c some u first. z.unopened addr num c some (unopened_was w.driver q.driver k addr num u) first;
-      untold = λ name u. lines name u ∙ z.untold name (unheard_was w.driver q.driver k name u);
-      unmissed = record { structures = none; in_hand = none_held; first = k.quiet_now.first };
+      unopened = λ addr num c some u first. z.unopened addr num c some (unopened_was g w.driver q.driver k addr num u) first;
+      untold = λ name u. lines name u ∙ z.untold name (unheard_was g w.driver q.driver k name u);
+      unmissed = record {
+        structures = narrow_unmissed (have_queues a.courses) (have_queues courses) later.parts had none;
+        in_hand = narrow_misses (have_queues a.courses) (have_queues courses) later.hand had none_held;
+        first = k.quiet_now.first;
+      };
     }
 
   -- the same queues
-  pub each_still : (e : ℕ) (x : Endpoint) → IsMetControl q.driver e x → HasCourse g q.driver e x (a.courses (32 * x.queue)) (a.numbers (32 * x.queue))
+  pub each_still : (e : ℕ) (x : Endpoint) → IsMetControl g q.driver e x
+      → HasCourse g q.driver e x (a.courses (32 * x.queue)) (a.numbers (32 * x.queue))
   each_still e x m =
       let y = k.was e x m.is.here in
-      course_was w.driver q.driver k g e x (a.courses (32 * x.queue)) (a.numbers (32 * x.queue)) m.is.here m.met.there.kept
-      (subst (λ (b : ℕ). HasCourse g w.driver e y.was (a.courses (32 * b)) (a.numbers (32 * b))) y.queue (z.each e y.was (was_met w.driver q.driver k e x m)))
+      course_was g w.driver q.driver k e x (a.courses (32 * x.queue)) (a.numbers (32 * x.queue)) m.is.here m.met.there.kept
+      (subst (λ (b : ℕ). HasCourse g w.driver e y.was (a.courses (32 * b)) (a.numbers (32 * b))) y.queue (z.each e y.was (was_met g w.driver q.driver k e x m)))

@@ -86,52 +86,69 @@ new_qtd_is_unmissed notes s b dummy last = refl
 pub dummy_is_unmissed : IsUnmissed (Element dummy_qtd)
 dummy_is_unmissed = refl
 
-pub writing_misses_none : (parts : StructureSets) (n a : ℕ) (s : Structure) → IsUnmissed s → NoneMissed parts → NoneMissed (put parts n a s)
-writing_misses_none parts n a s new none = record {
-  heads = λ k q here. by k k (QueueHead q) here (λ was. none.heads k q was);
-  elements = λ k b t here. by k b (Element t) here (λ was. none.elements k b t was);
+pub writing_misses_none : (asked : ℕ → Bool) (parts : StructureSets) (n a : ℕ) (s : Structure) → (asked n ≡ true → IsUnmissed s)
+    → NoneMissed asked parts → NoneMissed asked (put parts n a s)
+writing_misses_none asked parts n a s new none = record {
+  heads = λ k q on here. by k k (QueueHead q) on here (λ was. none.heads k q on was);
+  elements = λ k b t on here. by k b (Element t) on here (λ was. none.elements k b t on was);
 }
   where
-    by : (k b : ℕ) (t : Structure) → put parts n a s k b ≡ Some t → (parts k b ≡ Some t → IsUnmissed t) → IsUnmissed t
-    by k b t here still =
-        ⊎_elim {C = IsUnmissed t} (λ (own : (k ≡ n) × (b ≡ a) × (t ≡ s)). subst IsUnmissed (sym own.2) new) (λ (old : parts k b ≡ Some t). still old) (put_found parts n a s k b t here)
+    by : (k b : ℕ) (t : Structure) → asked k ≡ true → put parts n a s k b ≡ Some t → (parts k b ≡ Some t → IsUnmissed t) → IsUnmissed t
+    by k b t on here still =
+        ⊎_elim {C = IsUnmissed t} (λ (own : (k ≡ n) × (b ≡ a) × (t ≡ s)). subst IsUnmissed (sym own.2) (new (ap asked (sym own.0) ∙ on))) (λ (old : parts k b ≡ Some t). still old) (put_found parts n a s k b t here)
 
 found_still : (goes : Bool) (o : Option Structure) (s : Structure) → cond goes None o ≡ Some s → o ≡ Some s
 found_still true o s here = absurd (cc)
 found_still false o s here = here
 
 -- where nothing is new
-pub fewer_unmissed : (parts now : StructureSets) → ((n a : ℕ) (s : Structure) → now n a ≡ Some s → parts n a ≡ Some s) → NoneMissed parts → NoneMissed now
-fewer_unmissed parts now was none = record { heads = λ n q here. none.heads n q (was n n (QueueHead q) here); elements = λ n a t here. none.elements n a t (was n a (Element t) here) }
+pub fewer_unmissed : (asked : ℕ → Bool) (parts now : StructureSets) → ((n a : ℕ) (s : Structure) → now n a ≡ Some s → parts n a ≡ Some s)
+    → NoneMissed asked parts → NoneMissed asked now
+fewer_unmissed asked parts now was none = record { heads = λ n q on here. none.heads n q on (was n n (QueueHead q) here); elements = λ n a t on here. none.elements n a t on (was n a (Element t) here) }
 
-pub release_misses_none : (parts : StructureSets) (n : ℕ) (goes : ℕ → Bool) → NoneMissed parts → NoneMissed (without_those parts n goes)
-release_misses_none parts n goes none = fewer_unmissed parts (without_those parts n goes) (λ k a s here. by k a s (k == n) here) none
+-- of fewer queue heads
+pub narrow_unmissed : (asked now : ℕ → Bool) (parts : StructureSets) → ((n : ℕ) → now n ≡ true → asked n ≡ true) → NoneMissed asked parts
+    → NoneMissed now parts
+narrow_unmissed asked now parts was none = record { heads = λ n q on here. none.heads n q (was n on) here; elements = λ n a t on here. none.elements n a t (was n on) here }
+
+pub narrow_misses : (asked now : ℕ → Bool) (hand : Hand) → ((n : ℕ) → now n ≡ true → asked n ≡ true) → MissesNone asked hand
+    → MissesNone now hand
+narrow_misses asked now Empty was none = tt
+narrow_misses asked now (Copied c) was none = λ on. none (was c.at on)
+narrow_misses asked now (Settled c s) was none = λ on. none (was c.at on)
+narrow_misses asked now (Stale m q) was none = tt
+
+pub release_misses_none : (asked : ℕ → Bool) (parts : StructureSets) (n : ℕ) (goes : ℕ → Bool) → NoneMissed asked parts
+    → NoneMissed asked (without_those parts n goes)
+release_misses_none asked parts n goes none = fewer_unmissed asked parts (without_those parts n goes) (λ k a s here. by k a s (k == n) here) none
   where
-    by : (k a : ℕ) (s : Structure) (own : Bool) → cond own (λ (b : ℕ). if goes b then None else parts k b) (parts k) a ≡ Some s → parts k a ≡ Some s
+    by : (k a : ℕ) (s : Structure) (own : Bool) → cond own (λ (b : ℕ). if goes b then None else parts k b) (parts k) a ≡ Some s
+        → parts k a ≡ Some s
     by k a s true there = found_still (goes a) (parts k a) s there
     by k a s false there = there
 
 -- ---- what is in hand once a word was stored
 
-pub linked_unmissed : (n : ℕ) (l : LinkBits) (hand : Hand) → MissesNone hand → MissesNone (hand_linked n l hand)
-linked_unmissed n l Empty none = tt
-linked_unmissed n l (Copied c) none = by (c.at == n)
+pub linked_unmissed : (asked : ℕ → Bool) (n : ℕ) (l : LinkBits) (hand : Hand) → MissesNone asked hand
+    → MissesNone asked (hand_linked n l hand)
+linked_unmissed asked n l Empty none = tt
+linked_unmissed asked n l (Copied c) none = λ on. by (c.at == n) (none on)
   where
-    by : (b : Bool) → (if b then record c.queue { link = l } else c.queue).token.missed ≡ false
-    by true = none
-    by false = none
-linked_unmissed n l (Settled c s) none = none
-linked_unmissed n l (Stale m q) none = tt
+    by : (b : Bool) → c.queue.token.missed ≡ false → (if b then record c.queue { link = l } else c.queue).token.missed ≡ false
+    by true is = is
+    by false is = is
+linked_unmissed asked n l (Settled c s) none = none
+linked_unmissed asked n l (Stale m q) none = tt
 
-pub stale_unmissed : (n : ℕ) (hand : Hand) → MissesNone hand → MissesNone (hand_stale n hand)
-stale_unmissed n Empty none = tt
-stale_unmissed n (Copied c) none = by (c.at == n)
+pub stale_unmissed : (asked : ℕ → Bool) (n : ℕ) (hand : Hand) → MissesNone asked hand → MissesNone asked (hand_stale n hand)
+stale_unmissed asked n Empty none = tt
+stale_unmissed asked n (Copied c) none = by (c.at == n)
   where
-    by : (b : Bool) → MissesNone (if b then Stale n (copied_queue c) else Copied c)
+    by : (b : Bool) → MissesNone asked (if b then Stale n (copied_queue c) else Copied c)
     by true = tt
     by false = none
-stale_unmissed n (Settled c s) none = none
-stale_unmissed n (Stale m q) none = tt
+stale_unmissed asked n (Settled c s) none = none
+stale_unmissed asked n (Stale m q) none = tt
 
 -- ---- what is being published
 
@@ -145,8 +162,9 @@ pub unlink_published : (d : DriverContent) (e b link : ℕ) → d.command ≡ So
 unlink_published d e b link unlinks = subst (PublishesNoneBy d.made) (sym unlinks) tt
 
 -- the structures are as they were
-pub idle_misses : (d c : DriverContent) (parts : StructureSets) (hand : Hand) → c.command ≡ None → MissNone d parts hand → MissNone c parts hand
-idle_misses d c parts hand idle none = record { structures = none.structures; in_hand = none.in_hand; first = none_published c idle }
+pub idle_misses : (asked : ℕ → Bool) (d c : DriverContent) (parts : StructureSets) (hand : Hand) → c.command ≡ None
+    → MissNone asked d parts hand → MissNone asked c parts hand
+idle_misses asked d c parts hand idle none = record { structures = none.structures; in_hand = none.in_hand; first = none_published c idle }
 
 pub partly_unmissed : (t : Qtd) (k : ℕ) → (8 ≤ k → t.token.missed ≡ false) → (partly t k).token.missed ≡ false
 partly_unmissed t (suc (suc (suc (suc (suc (suc (suc (suc k)))))))) is = is (omega arith)
@@ -162,43 +180,46 @@ moved_missed : (c : Copy) (s : Settlement) (n : ℕ) → (moved (settled_queue_o
 unfolding moved settled_queue
 moved_missed c s n = refl
 
-after_unmissed : (c : Qh) (t : Qtd) (b : Bool) → c.token.missed ≡ false → t.token.missed ≡ false → IsUnmissed (Element (cond b t (record t { token = c.token })))
+after_unmissed : (c : Qh) (t : Qtd) (b : Bool) → c.token.missed ≡ false → t.token.missed ≡ false
+    → IsUnmissed (Element (cond b t (record t { token = c.token })))
 after_unmissed c t true new old = old
 after_unmissed c t false new old = new
 
-received_unmissed : (parts : StructureSets) (n : ℕ) (got : List ℕ) (r : Received) → NoneMissed parts → NoneMissed (received_parts parts n got r)
-received_unmissed parts n got Nothing none = none
-received_unmissed parts n got (Into pages k bs j) none = writing_misses_none parts n _ _ tt none
+received_unmissed : (asked : ℕ → Bool) (parts : StructureSets) (n : ℕ) (got : List ℕ) (r : Received) → NoneMissed asked parts
+    → NoneMissed asked (received_parts parts n got r)
+received_unmissed asked parts n got Nothing none = none
+received_unmissed asked parts n got (Into pages k bs j) none = writing_misses_none asked parts n _ _ (λ on. tt) none
 
-pub walk_misses_none : {W : Type 0} (transacts : W → Ask → List ℕ → Reply → W → Type 0) (parts : StructureSets) (hand : Hand) (wire after : W) (now : StructureSets) (later : Hand) (kind : WalkStep)
-    → Effect transacts parts hand wire after now later kind → NoneMissed parts → MissesNone hand → NoneMissed now × MissesNone later
-walk_misses_none transacts parts hand wire after now later kind (reads k same quiet) none had =
-    (subst NoneMissed (sym same) none, subst MissesNone (sym k.in_hand) (none.heads k.copy.at k.copy.queue k.here))
-walk_misses_none transacts parts hand wire after now later kind (passes k same quiet) none had = (subst NoneMissed (sym same) none, subst MissesNone (sym k.nothing) tt)
-walk_misses_none transacts parts hand wire after now later kind (ends k same quiet) none had = (subst NoneMissed (sym same) none, subst MissesNone (sym k.nothing) tt)
-walk_misses_none transacts parts hand wire after now later kind (takes k quiet) none had =
-    let c = k.copy in
-    let q = advanced c.queue k.element k.qtd in
-    let new : q.token.missed ≡ false = advanced_missed c.queue k.element k.qtd ∙ none.elements c.at k.element k.qtd k.here in
-    (subst NoneMissed (sym k.now_is) (writing_misses_none parts c.at c.at (QueueHead q) new none), subst MissesNone (sym k.later_is) new)
-walk_misses_none transacts parts hand wire after now later kind (makes k same) none had =
-    let was : k.copy.queue.token.missed ≡ false = subst MissesNone k.in_hand had in
-    (subst NoneMissed (sym same) none, subst MissesNone (sym k.later_is) (made_missed k.copy.queue k.out k.reply ∙ was))
-walk_misses_none transacts parts hand wire after now later kind (writes_back k quiet) none had =
-    let c = k.copy in
-    let s = k.settled in
-    let was : s.host.missed ≡ false = subst MissesNone k.in_hand had in
-    let r = received_into (parts c.at) c.queue k.element s.got in
-    let h = settled_queue_of c s in
-    let q = moved h (moved_by s.outcome) in
-    let new : q.token.missed ≡ false = moved_missed c s (moved_by s.outcome) ∙ was in
-    let one = received_parts parts c.at s.got r in
-    let two = put one c.at c.at (QueueHead (relinked c.queue q)) in
-    let old : k.element.token.missed ≡ false = none.elements c.at c.queue.current k.element k.here in
-    let all : NoneMissed (put two c.at h.current (Element (qtd_after q k.element))) =
-    writing_misses_none two c.at h.current (Element (qtd_after q k.element)) (after_unmissed q k.element q.token.active new old)
-    (writing_misses_none one c.at c.at (QueueHead (relinked c.queue q)) new (received_unmissed parts c.at s.got r none)) in
-    (subst NoneMissed (sym k.now_is) all, subst MissesNone (sym k.nothing) tt)
+module _ {W : Type 0} (transacts : W → Ask → List ℕ → Reply → W → Type 0) (asked : ℕ → Bool) (parts : StructureSets) (hand : Hand) (wire after : W) (now : StructureSets) (later : Hand) where
+  pub walk_misses_none : (kind : WalkStep) → Effect transacts parts hand wire after now later kind → NoneMissed asked parts
+      → MissesNone asked hand → NoneMissed asked now × MissesNone asked later
+  walk_misses_none kind (reads k same quiet) none had =
+      (subst (NoneMissed asked) (sym same) none, subst (MissesNone asked) (sym k.in_hand) (λ on. none.heads k.copy.at k.copy.queue on k.here))
+  walk_misses_none kind (passes k same quiet) none had = (subst (NoneMissed asked) (sym same) none, subst (MissesNone asked) (sym k.nothing) tt)
+  walk_misses_none kind (ends k same quiet) none had = (subst (NoneMissed asked) (sym same) none, subst (MissesNone asked) (sym k.nothing) tt)
+  walk_misses_none kind (takes k quiet) none had =
+      let c = k.copy in
+      let q = advanced c.queue k.element k.qtd in
+      let new : asked c.at ≡ true → q.token.missed ≡ false = λ on. advanced_missed c.queue k.element k.qtd ∙ none.elements c.at k.element k.qtd on k.here in
+      (subst (NoneMissed asked) (sym k.now_is) (writing_misses_none asked parts c.at c.at (QueueHead q) new none), subst (MissesNone asked) (sym k.later_is) new)
+  walk_misses_none kind (makes k same) none had =
+      let was : asked k.copy.at ≡ true → k.copy.queue.token.missed ≡ false = subst (MissesNone asked) k.in_hand had in
+      (subst (NoneMissed asked) (sym same) none, subst (MissesNone asked) (sym k.later_is) (λ on. made_missed k.copy.queue k.out k.reply ∙ was on))
+  walk_misses_none kind (writes_back k quiet) none had =
+      let c = k.copy in
+      let s = k.settled in
+      let was : asked c.at ≡ true → s.host.missed ≡ false = subst (MissesNone asked) k.in_hand had in
+      let r = received_into (parts c.at) c.queue k.element s.got in
+      let h = settled_queue_of c s in
+      let q = moved h (moved_by s.outcome) in
+      let new : asked c.at ≡ true → q.token.missed ≡ false = λ on. moved_missed c s (moved_by s.outcome) ∙ was on in
+      let one = received_parts parts c.at s.got r in
+      let two = put one c.at c.at (QueueHead (relinked c.queue q)) in
+      let old : asked c.at ≡ true → k.element.token.missed ≡ false = λ on. none.elements c.at c.queue.current k.element on k.here in
+      let all : NoneMissed asked (put two c.at h.current (Element (qtd_after q k.element))) =
+      writing_misses_none asked two c.at h.current (Element (qtd_after q k.element)) (λ on. after_unmissed q k.element q.token.active (new on) (old on))
+      (writing_misses_none asked one c.at c.at (QueueHead (relinked c.queue q)) new (received_unmissed asked parts c.at s.got r none)) in
+      (subst (NoneMissed asked) (sym k.now_is) all, subst (MissesNone asked) (sym k.nothing) tt)
 
 -- ---- a harvest
 
@@ -212,18 +233,21 @@ halt_unmissed t unset same =
     halts t.babble (nat_eq t.cerr 0)
     (sym (ap (λ (m : Bool). if m then lines.Miss else if t.babble then lines.Halt causes.Babble else if nat_eq t.cerr 0 then lines.Halt causes.Error else lines.Halt causes.Stall) unset) ∙ same)
 
-found_unmissed : (active halted done : Bool) (k n : ℕ) (what halt : What) → founds.Ended k what ≡ cond active founds.Active (cond halted (founds.Ended n halt) (done_of done n)) → halt ≢ lines.Miss → what ≢ lines.Miss
+found_unmissed : (active halted done : Bool) (k n : ℕ) (what halt : What)
+    → founds.Ended k what ≡ cond active founds.Active (cond halted (founds.Ended n halt) (done_of done n)) → halt ≢ lines.Miss
+    → what ≢ lines.Miss
 found_unmissed true halted done k n what halt is not same = absurd (cc)
 found_unmissed false true done k n what halt is not same = let told : halt ≡ what = cc in not (told ∙ same)
 found_unmissed false false true k n what halt is not same = absurd (cc)
 found_unmissed false false false k n what halt is not same = absurd (cc)
 
-pub harvest_misses_none : (p : Parts) (e t k n : ℕ) (what : What) (due : IsHarvestDue p e t (founds.Ended k what)) (parts : StructureSets) (u : Qtd) → OnlyAsynchronous p.driver → Tells p.memory parts
-    → parts n (32 * due.transfer.place) ≡ Some (Element u) → NoneMissed parts → what ≢ lines.Miss
-harvest_misses_none p e t k n what due parts u only tells here none =
+pub harvest_misses_none : (asked : ℕ → Bool) (p : Parts) (e t k n : ℕ) (what : What) (due : IsHarvestDue p e t (founds.Ended k what)) (parts : StructureSets) (u : Qtd)
+    → OnlyAsynchronous p.driver → Tells p.memory parts
+    → asked n ≡ true → parts n (32 * due.transfer.place) ≡ Some (Element u) → NoneMissed asked parts → what ≢ lines.Miss
+harvest_misses_none asked p e t k n what due parts u only tells on here none =
     let y = due.transfer in
     let note = note_at p.driver.notes y.place in
     let token = token_in p.memory y.place in
     let is : founds.Ended k what ≡ found_in y.sort (nat_le y.left 1) note token = due.tells ∙ found_by p.driver p.memory y y.sort (moves_queued p.driver y (only.moves t y due.there)) in
-    let unset : token.missed ≡ false = ap (λ (z : Token). z.missed) (token_is_read p.memory parts n y.place u tells here) ∙ none.elements n (32 * y.place) u here in
+    let unset : token.missed ≡ false = ap (λ (z : Token). z.missed) (token_is_read p.memory parts n y.place u tells here) ∙ none.elements n (32 * y.place) u on here in
     found_unmissed token.active token.halted (ends_by y.sort (nat_le y.left 1) token.total) k (moved_of note.told token.total) what (halt_of token) is (halt_unmissed token unset)

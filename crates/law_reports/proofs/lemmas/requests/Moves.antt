@@ -5,20 +5,16 @@ use Rattle.std.proofs.lemmas.Option.{same_Some}
 use Rattle.law_driver_ring.proofs.Common.{set_else}
 use Rattle.law_driver.proofs.Common.{waits_is}
 use Rattle.law_queues.proofs.Common.{set_which, after_is}
-use Rattle.law_world.proofs.Common.{control_kind}
-use Rattle.usb_base.specs.declared.packets.EpKind.TheVariants as kinds
 use Rattle.bus_wire.specs.Bus.{Fixed}
 use Rattle.drv_table.specs.declared.content.Command.{Command}
 use Rattle.drv_table.specs.declared.content.Endpoint.{Endpoint}
 use Rattle.drv_table.specs.declared.content.QtdNote.{QtdNote}
 use Rattle.drv_table.specs.declared.content.Transfer.{Transfer}
 use Rattle.drv_table.specs.declared.rows.DriverRow.{DriverRow}
-use Rattle.drv_table.specs.declared.rows.DriverRow.TheVariants as rows
 use Rattle.drv_table.specs.declared.rows.Found.{Found}
-use Rattle.drv_table.specs.declared.rows.Found.TheVariants as founds
 use Rattle.drv_table.specs.DriverContent.{DriverContent}
 use Rattle.drv_table.specs.Harvests.{note_at, noted}
-use Rattle.drv_table.specs.Rows.{driver_row, after_driver_row}
+use Rattle.drv_table.specs.Rows.{after_driver_row}
 use Rattle.drv_table.specs.Harvesting.{served, moved_on}
 use Rattle.drv_table.specs.Words.{request_stages}
 use Rattle.law_driver.specs.endpoint_lives.Lives.{told_end}
@@ -39,13 +35,11 @@ use Rattle.law_reports.specs.requests.told_requests.Waiting.{waiting}
 use Rattle.law_reports.proofs.lemmas.requests.lemmas.told_requests.WaitingHarvests.{other_harvest_keeps_waiting, harvest_keeps_waiting}
 use Rattle.law_reports.proofs.lemmas.requests.lemmas.driver_requests.Owning.{qtds_case}
 use Rattle.law_reports.proofs.lemmas.requests.lemmas.driver_requests.RowOrder.{row_numbers}
-use Rattle.law_reports.specs.requests.Courses.{queue_in}
+use Rattle.law_reports.specs.requests.Courses.{queue_in, have_queues}
 use Rattle.law_reports.specs.requests.Counts.{counted_all}
 use Rattle.law_reports.specs.requests.Records.{AreRecords}
 use Rattle.law_reports.proofs.lemmas.requests.Rows.{row_keeps_records}
-use Rattle.law_world.specs.streams.HarvestFeeds.{HarvestLeaves}
 use Rattle.law_queues.specs.standing_fronts.Tails.{tail_of, tail_block}
-use Rattle.law_world.specs.streams.Whole.{IsWhole}
 use Rattle.law_world.proofs.lemmas.streams.Leaving.{due, leaves, whole_harvested}
 use Rattle.law_reports.specs.requests.Asking.{Sides, Asking, has_left, is_next_of, is_publishing, next_with, DataIsRead, HasCourse, IsPublishingBy, IsMetControl, IsReadTo, IsAskingWorld}
 use Rattle.law_reports.specs.requests.Reading.{AreSilent}
@@ -55,6 +49,10 @@ use Rattle.law_reports.proofs.lemmas.requests.Has.{asking_of}
 use Rattle.law_reports.proofs.lemmas.requests.Reading.{moved_is_read}
 use Rattle.law_reports.proofs.lemmas.requests.Ended.{reads, same_sent}
 use Rattle.law_reports.proofs.lemmas.requests.Missed.{idle_misses}
+use Rattle.law_reports.specs.requests.Footing.{IsFooting}
+use Rattle.law_reports.proofs.lemmas.requests.Footing.{footing}
+use Rattle.drv_table.specs.declared.rows.DriverRow.TheVariants as rows
+use Rattle.drv_table.specs.declared.rows.Found.TheVariants as founds
 
 -- ---- notes of other blocks
 
@@ -66,16 +64,11 @@ pub second_one : (note : ℕ → QtdNote) (b n : ℕ) → 2 ≤ n → IsOneFrom 
 second_one note b zero some = absurd (omega (arith, some))
 second_one note b (suc n) some = inr (first_one note (note b).next n (omega (arith, some)))
 
-module _ (g : Sides) (fixed : Fixed) (takes : ℕ → ℕ → Bool) (member : ℕ → Bool) (x : Streams) (s : Standing) (a : Asking) (v : Windows) (asks : ℕ → Request) (w : World) (e t n : ℕ)
-    (row : driver_row (driver_parts w) ≡ rows.Harvest e t (founds.Moved n)) (k : IsWhole fixed takes member x s w) (silent : AreSilent w.driver) (q : IsAskingWorld g fixed member s a v asks w) where
+module _ (g : Sides) (fixed : Fixed) (member : ℕ → Bool) (x : Streams) (s : Standing) (a : Asking) (v : Windows) (asks : ℕ → Request)
+    (w : World) (e t n : ℕ)
+    (is_due : IsHarvestDue (driver_parts w) e t (founds.Moved n)) (k : IsFooting member x s w) (silent : AreSilent w.driver) (q : IsAskingWorld g fixed member s a v asks w) where
   abbrev as_moved : Found
   as_moved = founds.Moved n
-
-  pub is_due : IsHarvestDue (driver_parts w) e t (founds.Moved n)
-  is_due = due fixed takes member x s w e t (founds.Moved n) row k
-
-  pub l : HarvestLeaves fixed member x s (driver_next w)
-  l = leaves fixed takes member x s w e t (founds.Moved n) row k
 
   abbrev f : DriverContent
   f = served (moved_on w.driver t is_due.transfer n) e
@@ -86,7 +79,7 @@ module _ (g : Sides) (fixed : Fixed) (takes : ℕ → ℕ → Bool) (member : �
   moved_active : founds.Moved n ≢ founds.Active
   moved_active same = cc
 
-  was_met : (i : ℕ) (z : Endpoint) → IsMetControl f i z → IsMetControl w.driver i z
+  was_met : (i : ℕ) (z : Endpoint) → IsMetControl g f i z → IsMetControl g w.driver i z
   was_met i z is = record {
     is = record { here = is.is.here; control = is.is.control };
     met = record { there = record { linked = is.met.there.linked; kept = is.met.there.kept }; near = is.met.near };
@@ -103,7 +96,7 @@ module _ (g : Sides) (fixed : Fixed) (takes : ℕ → ℕ → Bool) (member : �
       ap (λ (c : Option Command). 32 * tail_block c (slice_get w.driver.transfers (length w.driver.transfers - 1)) i z.dummy) is_due.idle
       ∙ sym (ap (λ (c : Option Command). 32 * tail_block c (slice_get f.transfers (length f.transfers - 1)) i z.dummy) is_due.idle)
 
-  each_then : (i : ℕ) (z : Endpoint) → IsMetControl f i z → HasCourse g f i z (a.courses (32 * z.queue)) (a.numbers (32 * z.queue))
+  each_then : (i : ℕ) (z : Endpoint) → IsMetControl g f i z → HasCourse g f i z (a.courses (32 * z.queue)) (a.numbers (32 * z.queue))
   each_then i z is =
       let h = q.each i z (was_met i z is) in
       let m : ℕ = (queue_in (a.courses (32 * z.queue))).count in
@@ -131,21 +124,23 @@ module _ (g : Sides) (fixed : Fixed) (takes : ℕ → ℕ → Bool) (member : �
   numbers_then i = sym (ap (λ (d : DriverContent). numbers_of d i) f_is) ∙ row_numbers (driver_parts w) (rows.Harvest e t (founds.Moved n)) i
 
   next_read : IsReadNext w.driver e t is_due.endpoint is_due.transfer
-  next_read = read_next (driver_parts w) e t as_moved is_due k.feeding.working.place.sound.owners k.feeding.turns
+  next_read = read_next (driver_parts w) e t as_moved is_due k.owners k.turns
 
   -- ---- what was read
 
-  module _ (i u : ℕ) (z : Endpoint) (y : Transfer) (is : IsMetControl w.driver i z) (going : told_end z ≡ None) (next : z.next ≡ Some u) where
-    own_read : u ≡ t → y ≡ record is_due.transfer { place = (note_at w.driver.notes is_due.transfer.place).next; left = is_due.transfer.left - 1 }
+  module _ (i u : ℕ) (z : Endpoint) (y : Transfer) (is : IsMetControl g w.driver i z) (going : told_end z ≡ None)
+      (next : z.next ≡ Some u) where
+    own_read : u ≡ t
+        → y ≡ record is_due.transfer { place = (note_at w.driver.notes is_due.transfer.place).next; left = is_due.transfer.left - 1 }
         → IsReadTo s.hand s.parts (32 * z.queue) (note_at (noted w.driver.notes is_due.transfer.place n)) y ((a.numbers (32 * z.queue)).requests.requests 0)
     own_read at same =
         let owner = next_read.waits i t z is_due.transfer (record { endpoint = is.is.here; going = going; next = next ∙ ap Some at; transfer = is_due.there }) in
         let number : e ≡ i = sym (waits_is e is_due.transfer is_due.waits).0 ∙ owner.0 in
         let one : is_due.endpoint ≡ z = same_Some is_due.endpoint z (sym is_due.here ∙ ap (slice_get w.driver.endpoints) number ∙ is.is.here) in
-        let control : is_due.endpoint.desc.kind ≡ kinds.Control = ap (λ (d : Endpoint). d.desc.kind) one ∙ control_kind z.desc.kind is.is.control in
-        let first : ReadsFirst member s a w e t as_moved is_due = reads g fixed takes member x s a v asks w e t as_moved is_due control k silent q moved_active in
+        let control : g.asks is_due.endpoint.desc ≡ true = ap (λ (d : Endpoint). g.asks d.desc) one ∙ is.is.control in
+        let first : ReadsFirst member s a w e t as_moved is_due = reads g fixed member x s a v asks w e t as_moved is_due control k silent q moved_active in
         let r : first.queue.requests 0 ≡ (a.numbers (32 * is_due.endpoint.queue)).requests.requests 0 =
-        sym (ap (λ (d : Sent). d.request) (same_sent g fixed takes member x s a v asks w e t as_moved is_due control k silent q) ∙ ap (λ (d : Queue). d.requests 0) (ap queue_in first.asked)) in
+        sym (ap (λ (d : Sent). d.request) (same_sent g fixed member x s a v asks w e t as_moved is_due control k silent q) ∙ ap (λ (d : Queue). d.requests 0) (ap queue_in first.asked)) in
         subst (λ (d : Endpoint). IsReadTo s.hand s.parts (32 * d.queue) (note_at (noted w.driver.notes is_due.transfer.place n)) y ((a.numbers (32 * d.queue)).requests.requests 0)) one
         (subst (λ (d : Transfer). IsReadTo s.hand s.parts (32 * is_due.endpoint.queue) (note_at (noted w.driver.notes is_due.transfer.place n)) d ((a.numbers (32 * is_due.endpoint.queue)).requests.requests 0)) (sym same)
         (subst (IsReadTo s.hand s.parts (32 * is_due.endpoint.queue) (note_at (noted w.driver.notes is_due.transfer.place n)) _) r
@@ -197,16 +192,17 @@ module _ (g : Sides) (fixed : Fixed) (takes : ℕ → ℕ → Bool) (member : �
         (λ own. own_read own.0 own.1) (λ other. other_read other.0 other.1)
         (set_which w.driver.transfers t u is_due.transfer (record is_due.transfer { place = (note_at w.driver.notes is_due.transfer.place).next; left = is_due.transfer.left - 1 }) y is_due.there here)
 
-  records_then : AreRecords f asks a.courses a.numbers (has_left w.driver) v
-  records_then = subst (λ (d : DriverContent). AreRecords d asks a.courses a.numbers (has_left w.driver) v) f_is
-      (row_keeps_records (driver_parts w) (rows.Harvest e t (founds.Moved n)) asks a.courses a.numbers (has_left w.driver) v (λ i has. tt)
+  records_then : AreRecords f asks a.courses a.numbers (has_left g w.driver) v
+  records_then = subst (λ (d : DriverContent). AreRecords d asks a.courses a.numbers (has_left g w.driver) v) f_is
+      (row_keeps_records (driver_parts w) (rows.Harvest e t (founds.Moved n)) asks a.courses a.numbers (has_left g w.driver) v (λ i has. tt)
       (λ i m has few is. let bad : ◌≡◌ {A = Option ℕ} None (Some ((a.numbers i).number m)) = is in cc) q.records)
 
-  asking_moved : IsAskingWorld g fixed member (record s { out = l.out; reported = l.reported }) a v asks (record w { driver = f })
+  asking_moved : IsAskingWorld g fixed member s a v asks (record w { driver = f })
   asking_moved = record {
     stand = q.stand;
     records = record { each = records_then.each; left = records_then.left; none = records_then.none };
     each = each_then;
+    asked = q.asked;
     publishing = λ i z is on. subst (λ (o : Option Command). IsPublishingBy f w.memory z (s.parts (32 * z.queue)) (a.courses (32 * z.queue)) (a.numbers (32 * z.queue)) o) (sym is_due.idle) tt;
     read = λ i u z y is going next here. read_then i u z y (was_met i z is) going next here;
     telling = λ i z is kept.
@@ -225,17 +221,16 @@ module _ (g : Sides) (fixed : Fixed) (takes : ℕ → ℕ → Bool) (member : �
         record { device = h.device; is = h.is; acted = h.acted ∙ ap (λ (ts : List ℕ). counted_all v ts 0) (sym (numbers_then i)) };
     unopened = q.unopened;
     untold = q.untold;
-    unmissed = idle_misses w.driver f s.parts s.hand is_due.idle q.unmissed;
+    unmissed = idle_misses (have_queues a.courses) w.driver f s.parts s.hand is_due.idle q.unmissed;
   }
 
-  pub asking_then : IsAskingWorld g fixed member (record s { out = l.out; reported = l.reported }) a v asks (driver_next w)
-  asking_then =
-      subst (λ (r : DriverRow). IsAskingWorld g fixed member (record s { out = l.out; reported = l.reported }) a v asks (with_parts w (after_driver_row r (driver_parts w)))) (sym row)
-      (subst (λ (d : DriverContent). IsAskingWorld g fixed member (record s { out = l.out; reported = l.reported }) a v asks (record w { driver = d })) (sym f_is) asking_moved)
-
-  pub whole_then : IsWhole fixed takes member x (record s { out = l.out; reported = l.reported }) (driver_next w)
-  whole_then = whole_harvested fixed takes member x s w e t (founds.Moved n) row k l
+  pub moved_asks : IsAskingWorld g fixed member s a v asks (record w { driver = ended_driver w e t (founds.Moved n) })
+  moved_asks = subst (λ (d : DriverContent). IsAskingWorld g fixed member s a v asks (record w { driver = d })) (sym f_is) asking_moved
 
 pub moved_keeps_asking : MovedKeepsAsking
 moved_keeps_asking g fixed takes member x s a v asks w e t n row head k silent q =
-    asking_of g fixed takes member x _ a v asks (driver_next w) (whole_then g fixed takes member x s a v asks w e t n row k silent q) (asking_then g fixed takes member x s a v asks w e t n row k silent q) head
+    let l = leaves fixed takes member x s w e t (founds.Moved n) row k in
+    let after : Standing = record s { out = l.out; reported = l.reported } in
+    asking_of g fixed takes member x after a v asks (driver_next w) (whole_harvested fixed takes member x s w e t (founds.Moved n) row k l)
+    (subst (λ (r : DriverRow). IsAskingWorld g fixed member after a v asks (with_parts w (after_driver_row r (driver_parts w)))) (sym row)
+    (moved_asks g fixed member x s a v asks w e t n (due fixed takes member x s w e t (founds.Moved n) row k) (footing fixed takes member x s w k head) silent q)) head

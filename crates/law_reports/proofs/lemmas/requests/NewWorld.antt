@@ -1,5 +1,5 @@
 -- A new world has no endpoint and no request.
-use Rattle.std.proofs.Common.{◌≡◌, ℕ, zero, suc, ◌*◌, ◌≤◌, Bool, true, List, [], length, slice_get, Option, Some, ap, refl, subst, arith, None}
+use Rattle.std.proofs.Common.{◌≡◌, ℕ, zero, suc, ◌*◌, ◌≤◌, Bool, true, List, [], length, slice_get, Option, Some, ap, refl, subst, arith, false}
 use Rattle.std.proofs.lemmas.Bool.{false≢true}
 use Rattle.std.proofs.lemmas.List.{length-replicate}
 use Rattle.law_queues.proofs.Common.{no_endpoint}
@@ -13,8 +13,8 @@ use Rattle.drv_table.specs.declared.content.Reserve.{Reserve}
 use Rattle.drv_table.specs.DriverContent.{DriverContent}
 use Rattle.drv_table.specs.Opening.{opening}
 use Rattle.claims_driver.specs.Owners.{views_of}
-use Rattle.law_structures.specs.lent_structures.Structures.{Structure, Table, QueueHead, Element}
-use Rattle.law_driver_ring.specs.PartOpened.{empty_list, opening_parts, is_head, no_parts, list_parts}
+use Rattle.law_structures.specs.lent_structures.Structures.{Structure, Table}
+use Rattle.law_driver_ring.specs.PartOpened.{empty_list, opening_parts, is_head}
 use Rattle.law_driver_ring.specs.Extents.{AreInRuns}
 use Rattle.law_queues.proofs.lemmas.harvest_laws.Standing.{new_is_told}
 use Rattle.law_queues.proofs.lemmas.open_names.Apart.{new_names_are_apart}
@@ -37,20 +37,20 @@ use Rattle.law_world.specs.streams.Whole.{IsWhole}
 use Rattle.law_reports.specs.requests.Asking.{Sides, Asking, left_with, IsAskingWorld}
 use Rattle.law_reports.specs.requests.AskingLaws.{IsFirst, NewWorldAsks}
 use Rattle.law_reports.proofs.lemmas.requests.Has.{asking_of}
-use Rattle.law_reports.proofs.lemmas.requests.Names.{named_by}
-use Rattle.law_reports.specs.requests.Missed.{NoneMissed, MissesNone}
-use Rattle.law_reports.proofs.lemmas.requests.Missed.{writing_misses_none}
+use Rattle.law_reports.specs.requests.Missed.{MissesNone}
+use Rattle.law_reports.proofs.lemmas.requests.Footing.{named_by}
+use Rattle.law_ring.specs.Hand.{Hand, Empty, Copied, Settled, Stale}
 
-none_left : (d : DriverContent) (e : ℕ) → left_with d e (slice_get {X = DriverEndpoint} [] e) ≡ true → ⊥
-none_left d zero on = false≢true on
-none_left d (suc e) on = false≢true on
+none_left : (g : Sides) (d : DriverContent) (e : ℕ) → left_with g d e (slice_get {X = DriverEndpoint} [] e) ≡ true → ⊥
+none_left g d zero on = false≢true on
+none_left g d (suc e) on = false≢true on
 
--- nothing but the frame list and the head of the ring stands
-no_misses : NoneMissed no_parts
-no_misses = record { heads = λ n q here. let never : ◌≡◌ {A = Option Structure} None (Some (QueueHead q)) = here in absurd cc; elements = λ n a t here. let never : ◌≡◌ {A = Option Structure} None (Some (Element t)) = here in absurd cc }
-
-opening_unmissed : NoneMissed opening_parts
-opening_unmissed = writing_misses_none list_parts 4096 4096 (QueueHead opening_head) refl (writing_misses_none no_parts 0 0 (Table empty_list) tt no_misses)
+-- no queue is asked
+none_in_hand : (hand : Hand) → MissesNone (λ n. false) hand
+none_in_hand Empty = tt
+none_in_hand (Copied c) = λ on. absurd (false≢true on)
+none_in_hand (Settled c s) = λ on. absurd (false≢true on)
+none_in_hand (Stale n q) = tt
 
 abbrev no_numbers : Numbers
 no_numbers = record { endpoint = 0; closed = []; requests = nobody; number = λ i. i }
@@ -58,7 +58,9 @@ no_numbers = record { endpoint = 0; closed = []; requests = nobody; number = λ 
 abbrev none_asked : Asking
 none_asked = record { courses = λ n. NoQueue; numbers = λ n. no_numbers }
 
-module _ (s : Script) (g : Sides) (first : IsFirst s g) (takes : ℕ → ℕ → Bool) (member : ℕ → Bool) (x : Streams) (standing : Standing) (k : IsWhole (fixed_of s) takes member x standing (opening_world s)) (ring : x.endpoint (32 * head_block) ≡ endpoint_of opening_head) (none : NoneMissed standing.parts) (none_held : MissesNone standing.hand) where
+module _ (s : Script) (g : Sides) (first : IsFirst s g) (takes : ℕ → ℕ → Bool) (member : ℕ → Bool) (x : Streams) (standing : Standing)
+    (k : IsWhole (fixed_of s) takes member x standing (opening_world s))
+    (ring : x.endpoint (32 * head_block) ≡ endpoint_of opening_head) where
   pub new_asking : IsAskingWorld g (fixed_of s) member standing (record { courses = λ n. NoQueue; numbers = λ n. record { endpoint = 0; closed = []; requests = nobody; number = λ i. i } }) no_windows no_asks (opening_world s)
   new_asking = record {
     stand = record {
@@ -69,10 +71,11 @@ module _ (s : Script) (g : Sides) (first : IsFirst s g) (takes : ℕ → ℕ →
     };
     records = record {
       each = λ n has. absurd (false≢true has);
-      left = λ e left. absurd (none_left (opening_world s).driver e left);
+      left = λ e left. absurd (none_left g (opening_world s).driver e left);
       none = λ t none. refl;
     };
     each = λ e z is. absurd (no_endpoint e z is.is.here);
+    asked = λ n z has here. absurd (false≢true has);
     publishing = λ e z is on. absurd (no_endpoint e z is.is.here);
     read = λ e t z y is going next here. absurd (no_endpoint e z is.is.here);
     telling = λ e z is kept. absurd (no_endpoint e z is.is.here);
@@ -80,7 +83,11 @@ module _ (s : Script) (g : Sides) (first : IsFirst s g) (takes : ℕ → ℕ →
     counts = λ e z is off. absurd (no_endpoint e z is.here);
     unopened = λ addr num c least none is. first addr num c is;
     untold = λ name unnamed. refl;
-    unmissed = record { structures = none; in_hand = none_held; first = tt };
+    unmissed = record {
+      structures = record { heads = λ n p has here. absurd (false≢true has); elements = λ n b t has here. absurd (false≢true has) };
+      in_hand = none_in_hand standing.hand;
+      first = tt;
+    };
   }
 
 -- ---- the world is whole
@@ -122,4 +129,4 @@ new_whole s fit bytes = record {
 pub new_world_asks : NewWorldAsks
 new_world_asks s g fit bytes first =
     asking_of g (fixed_of s) (takes_of s) is_head (streams_of s) at_opening none_asked no_windows no_asks (opening_world s) (new_whole s fit bytes)
-    (new_asking s g first (takes_of s) is_head (streams_of s) at_opening (new_whole s fit bytes) refl opening_unmissed tt) refl
+    (new_asking s g first (takes_of s) is_head (streams_of s) at_opening (new_whole s fit bytes) refl) refl

@@ -11,7 +11,6 @@ use Rattle.drv_table.specs.declared.content.Command.TheVariants as unfinished
 use Rattle.drv_table.specs.declared.content.Endpoint.{Endpoint}
 use Rattle.drv_table.specs.declared.content.Transfer.{Transfer}
 use Rattle.drv_table.specs.DriverContent.{DriverContent}
-use Rattle.drv_table.specs.Words.{is_control}
 use Rattle.claims_driver.specs.Owners.{Element, note_in}
 use Rattle.claims_driver.specs.Leaving.{HasOwners}
 use Rattle.law_driver.specs.chained_transfers.Asynchronous.{OnlyAsynchronous}
@@ -28,16 +27,17 @@ use Rattle.law_reports.proofs.lemmas.requests.lemmas.driver_requests.Owning.{qtd
 use Rattle.law_reports.specs.requests.Courses.{queue_in, have_queues}
 use Rattle.law_reports.specs.requests.Records.{IsRecord}
 use Rattle.law_queues.specs.standing_fronts.Tails.{tail_block}
-use Rattle.law_reports.specs.requests.Asking.{Sides, Asking, is_publishing, is_next_of, HasCourse, IsMetControl}
-use Rattle.law_reports.proofs.lemmas.requests.Inside.{AsksIn}
+use Rattle.law_reports.specs.requests.Asking.{Sides, Asking, is_publishing, is_next_of, HasCourse, IsMetControl, AsksIn}
 
 -- ---- where the tail is
 
-tail_at : (o : Option Transfer) (e dummy b : ℕ) (words : List ℕ) → is_publishing (Some (unfinished.Publish b words)) o e ≡ true → tail_block (Some (unfinished.Publish b words)) o e dummy ≡ b
+tail_at : (o : Option Transfer) (e dummy b : ℕ) (words : List ℕ) → is_publishing (Some (unfinished.Publish b words)) o e ≡ true
+    → tail_block (Some (unfinished.Publish b words)) o e dummy ≡ b
 tail_at None e dummy b words is = absurd (false≢true is)
 tail_at (Some y) e dummy b words is = ap (λ (z : Bool). if z then b else dummy) is
 
-pub tail_next : (c : Option Command) (o : Option Transfer) (e dummy b : ℕ) (words : List ℕ) → c ≡ Some (unfinished.Publish b words) → is_publishing c o e ≡ true → tail_block c o e dummy ≡ b
+pub tail_next : (c : Option Command) (o : Option Transfer) (e dummy b : ℕ) (words : List ℕ) → c ≡ Some (unfinished.Publish b words)
+    → is_publishing c o e ≡ true → tail_block c o e dummy ≡ b
 tail_next c o e dummy b words command is =
     ap (λ (z : Option Command). tail_block z o e dummy) command ∙ tail_at o e dummy b words (sym (ap (λ (z : Option Command). is_publishing z o e) command) ∙ is)
 
@@ -57,7 +57,8 @@ module _ (d : DriverContent) (t : ℕ) (r : Request) (x : Places) (k : IsLaidOut
   stands_at Data = data_place d t r x k
   stands_at _ = inr (status_place d t r x k)
 
-module _ (g : Sides) (member : ℕ → Bool) (parts : StructureSets) (hand : Hand) (a : Asking) (v : Windows) (asks : ℕ → Request) (d : DriverContent) (m : Mem) (wire : Wired)
+module _ (g : Sides) (member : ℕ → Bool) (parts : StructureSets) (hand : Hand) (a : Asking) (v : Windows) (asks : ℕ → Request)
+    (d : DriverContent) (m : Mem) (wire : Wired)
     (q : AsksIn g member parts hand a v asks d m wire) (has : HasOwners d) where
   abbrev record_at : (n : ℕ) → have_queues a.courses n ≡ true → IsRecord d asks n (a.courses n) (a.numbers n) v
   record_at n on = q.records.each n on
@@ -65,14 +66,17 @@ module _ (g : Sides) (member : ℕ → Bool) (parts : StructureSets) (hand : Han
   pub fewer : (n i : ℕ) → have_queues a.courses n ≡ true → i < (queue_in (a.courses n)).count → i < (a.numbers n).requests.count
   fewer n i on few = let least = (record_at n on).numbered.ahead.few in omega (arith, few, least)
 
-  pub same_places : (n i : ℕ) → have_queues a.courses n ≡ true → i < (queue_in (a.courses n)).count → (a.numbers n).requests.places i ≡ (queue_in (a.courses n)).places i
+  pub same_places : (n i : ℕ) → have_queues a.courses n ≡ true → i < (queue_in (a.courses n)).count
+      → (a.numbers n).requests.places i ≡ (queue_in (a.courses n)).places i
   same_places n i on few = ap (λ (s : Sent). s.places) ((record_at n on).numbered.ahead.same i few)
 
-  pub laid_at : (n i : ℕ) → have_queues a.courses n ≡ true → i < (a.numbers n).requests.count → IsLaidOut d ((a.numbers n).number i) ((a.numbers n).requests.requests i) ((a.numbers n).requests.places i)
+  pub laid_at : (n i : ℕ) → have_queues a.courses n ≡ true → i < (a.numbers n).requests.count
+      → IsLaidOut d ((a.numbers n).number i) ((a.numbers n).requests.requests i) ((a.numbers n).requests.places i)
   laid_at n i on few = (record_at n on).numbered.own.laid i (omega arith) few
 
   -- the block of a qTD of a request is its transfer's
-  pub owner_at : (n i c : ℕ) (s : Stage) → have_queues a.courses n ≡ true → i < (queue_in (a.courses n)).count → place_at ((queue_in (a.courses n)).places i) s ≡ 32 * c
+  pub owner_at : (n i c : ℕ) (s : Stage) → have_queues a.courses n ≡ true → i < (queue_in (a.courses n)).count
+      → place_at ((queue_in (a.courses n)).places i) s ≡ 32 * c
       → has.owner c ≡ Element ((a.numbers n).number i)
   owner_at n i c s on few at =
       let t = (a.numbers n).number i in
@@ -88,7 +92,8 @@ module _ (g : Sides) (member : ℕ → Bool) (parts : StructureSets) (hand : Han
 
   -- ---- the newest transfer
 
-  module _ (t b : ℕ) (words : List ℕ) (y : Transfer) (z : Endpoint) (only : OnlyAsynchronous d) (command : d.command ≡ Some (unfinished.Publish b words)) (newest : suc t ≡ length d.transfers)
+  module _ (t b : ℕ) (words : List ℕ) (y : Transfer) (z : Endpoint) (only : OnlyAsynchronous d)
+      (command : d.command ≡ Some (unfinished.Publish b words)) (newest : suc t ≡ length d.transfers)
       (there : slice_get d.transfers t ≡ Some y) (here : slice_get d.endpoints y.endpoint ≡ Some z) (going : z.ended ≡ None) where
     last_is : slice_get d.transfers (length d.transfers - 1) ≡ Some y
     last_is = let same : length d.transfers - 1 ≡ t = omega (arith, newest) in ap (slice_get d.transfers) same ∙ there
@@ -98,7 +103,7 @@ module _ (g : Sides) (member : ℕ → Bool) (parts : StructureSets) (hand : Han
         ap (λ (c : Option Command). is_publishing c (slice_get d.transfers (length d.transfers - 1)) y.endpoint) command
         ∙ ap (λ (o : Option Transfer). is_publishing (Some (unfinished.Publish b words)) o y.endpoint) last_is ∙ eq-eqb y.endpoint y.endpoint refl
 
-    pub its_control : is_control z.desc.kind ≡ true → IsMetControl d y.endpoint z
+    pub its_control : g.asks z.desc ≡ true → IsMetControl g d y.endpoint z
     its_control control = record {
       is = record { here = here; control = control };
       met = stands_met d y.endpoint z (only.endpoints y.endpoint z here) going (λ opens. no_open b z.queue words (sym command ∙ opens));
@@ -114,7 +119,7 @@ module _ (g : Sides) (member : ℕ → Bool) (parts : StructureSets) (hand : Han
         let number : y.endpoint ≡ e = sym (ap (λ (u : Transfer). u.endpoint) is) ∙ of.endpoint in
         let own : end.own ≡ z = same_Some end.own z (sym end.here ∙ ap (slice_get d.endpoints) (sym number) ∙ here) in
         let place : n ≡ 32 * z.queue = end.queue ∙ ap (λ (u : Endpoint). 32 * u.queue) own in
-        let control : is_control z.desc.kind ≡ true = sym (ap (λ (u : Endpoint). is_control u.desc.kind) own) ∙ ap is_control end.control in
+        let control : g.asks z.desc ≡ true = q.asked n z on (ap (slice_get d.endpoints) (sym number) ∙ here) in
         let k : HasCourse g d y.endpoint z (a.courses n) (a.numbers n) =
         subst (λ (j : ℕ). HasCourse g d y.endpoint z (a.courses j) (a.numbers j)) (sym place) (q.each y.endpoint z (its_control control)) in
         let last = k.newest its_next in

@@ -13,7 +13,6 @@ use Rattle.bus_wire.specs.Bus.{Fixed}
 use Rattle.bus_wire.specs.Fates.{is_same_name}
 use Rattle.claims_report.specs.Acts.{IsOnce}
 use Rattle.drv_table.specs.declared.content.Command.{Command}
-use Rattle.drv_table.specs.declared.content.Command.TheVariants as unfinished
 use Rattle.drv_table.specs.declared.content.Endpoint.{Endpoint as DriverEndpoint}
 use Rattle.drv_table.specs.declared.content.Transfer.{Transfer}
 use Rattle.drv_table.specs.DriverContent.{DriverContent}
@@ -36,16 +35,19 @@ use Rattle.law_reports.specs.requests.Telling.{IsTelling}
 use Rattle.law_reports.proofs.lemmas.requests.Telling.{split}
 use Rattle.law_reports.specs.requests.Asking.{Sides, Asking, has_left, IsPublishingBy, IsMetControl, IsAskingWorld}
 use Rattle.law_reports.specs.requests.AskingLaws.{RefusedKeepsAsking}
+use Rattle.drv_table.specs.declared.content.Command.TheVariants as unfinished
 
 -- ---- requests of transfers that aren't there
 
-module _ (d : DriverContent) (asks now : ℕ → Request) (v : Windows) (same : (t e : ℕ) → transfers_endpoint d t ≡ Some e → now t ≡ asks t) where
+module _ (d : DriverContent) (asks now : ℕ → Request) (v : Windows)
+    (same : (t e : ℕ) → transfers_endpoint d t ≡ Some e → now t ≡ asks t) where
   windows_now : (ts : List ℕ) → AllByRecursion (λ t. now t ≡ asks t) ts → map (window_at now v) ts ≡ map (window_at asks v) ts
   windows_now [] all = refl
   windows_now (t ∷ ts) all =
       ap (λ (r : Request). record { request = r; acts = v.acts t } ∷ map (window_at now v) ts) all.0 ∙ ap (λ (ws : List Window). window_at asks v t ∷ ws) (windows_now ts all.1)
 
-  pub records_asked : (courses : ℕ → Course) (numbers : ℕ → Numbers) (gone : ℕ → Bool) → AreRecords d asks courses numbers gone v → AreRecords d now courses numbers gone v
+  pub records_asked : (courses : ℕ → Course) (numbers : ℕ → Numbers) (gone : ℕ → Bool) → AreRecords d asks courses numbers gone v
+      → AreRecords d now courses numbers gone v
   records_asked courses numbers gone rec = record {
     each = λ n has.
         let k : IsRecord d asks n (courses n) (numbers n) v = rec.each n has in
@@ -71,7 +73,8 @@ module _ (d : DriverContent) (asks now : ℕ → Request) (v : Windows) (same : 
     none = rec.none;
   }
 
-  pub telling_asked : (e : ℕ) (name : EpName) (whole : Request → List ℕ) (reported waits : List ℕ) → IsTelling d asks e name whole v reported waits → IsTelling d now e name whole v reported waits
+  pub telling_asked : (e : ℕ) (name : EpName) (whole : Request → List ℕ) (reported waits : List ℕ)
+      → IsTelling d asks e name whole v reported waits → IsTelling d now e name whole v reported waits
   telling_asked e name whole reported waits k =
       let all = split (λ t. now t ≡ asks t) reported waits
       (subst (AllByRecursion (λ t. now t ≡ asks t)) k.numbers (all_map (λ t. transfers_endpoint d t ≡ Some e) (λ t. now t ≡ asks t) (λ t of. same t e of) (numbers_of d e) (numbers_are d e))) in
@@ -86,18 +89,21 @@ module _ (d : DriverContent) (asks now : ℕ → Request) (v : Windows) (same : 
 
 -- ---- the line
 
-lines_same : (d : DriverContent) (n : ℕ) (other name : EpName) (why : OfferError) → lines_in name (refused_line d n other why).reports ≡ lines_in name d.reports
+lines_same : (d : DriverContent) (n : ℕ) (other name : EpName) (why : OfferError)
+    → lines_in name (refused_line d n other why).reports ≡ lines_in name d.reports
 lines_same d n other name why =
     line_of_other name d.reports (record { name = other; what = Refused n why; from = length d.store; len = 0 }) (refused_by (is_same_name other name) true refl)
 
-module _ (g : Sides) (fixed : Fixed) (member : ℕ → Bool) (s : Standing) (a : Asking) (v : Windows) (asks now : ℕ → Request) (w : World) (line : ℕ) (name : EpName) (why : OfferError) (same : (t e : ℕ) → transfers_endpoint w.driver t ≡ Some e → now t ≡ asks t) (q : IsAskingWorld g fixed member s a v asks w) where
+module _ (g : Sides) (fixed : Fixed) (member : ℕ → Bool) (s : Standing) (a : Asking) (v : Windows) (asks now : ℕ → Request) (w : World)
+    (line : ℕ) (name : EpName) (why : OfferError) (same : (t e : ℕ) → transfers_endpoint w.driver t ≡ Some e → now t ≡ asks t)
+    (q : IsAskingWorld g fixed member s a v asks w) where
   abbrev d : DriverContent
   d = w.driver
 
   abbrev f : DriverContent
   f = refused_line w.driver line name why
 
-  was_met : (e : ℕ) (z : DriverEndpoint) → IsMetControl (refused_line w.driver line name why) e z → IsMetControl w.driver e z
+  was_met : (e : ℕ) (z : DriverEndpoint) → IsMetControl g (refused_line w.driver line name why) e z → IsMetControl g w.driver e z
   was_met e z is = record {
     is = record { here = is.is.here; control = is.is.control };
     met = record { there = record { linked = is.met.there.linked; kept = is.met.there.kept }; near = is.met.near };
@@ -110,7 +116,8 @@ module _ (g : Sides) (fixed : Fixed) (member : ℕ → Bool) (s : Standing) (a :
     notes = λ t b y here of held piece. refl;
   }
 
-  publishing_then : (z : DriverEndpoint) (part : Structures) (c : Course) (b : Numbers) (o : Option Command) → IsPublishingBy w.driver w.memory z part c b o → IsPublishingBy (refused_line w.driver line name why) w.memory z part c b o
+  publishing_then : (z : DriverEndpoint) (part : Structures) (c : Course) (b : Numbers) (o : Option Command)
+      → IsPublishingBy w.driver w.memory z part c b o → IsPublishingBy (refused_line w.driver line name why) w.memory z part c b o
   publishing_then z part c b None h = tt
   publishing_then z part c b (Some (unfinished.Open queue)) h = tt
   publishing_then z part c b (Some (unfinished.Publish at words)) h = record {
@@ -166,10 +173,11 @@ module _ (g : Sides) (fixed : Fixed) (member : ℕ → Bool) (s : Standing) (a :
   pub asking_refused : IsAskingWorld g fixed member s a v now (record w { driver = refused_line w.driver line name why })
   asking_refused = record {
     stand = q.stand;
-    records = accepted_keeps_records d f now a.courses a.numbers (has_left d) v keeps refl (records_asked d asks now v same a.courses a.numbers (has_left d) q.records);
+    records = accepted_keeps_records d f now a.courses a.numbers (has_left g d) v keeps refl (records_asked d asks now v same a.courses a.numbers (has_left g d) q.records);
     each = λ e z is.
         let h = q.each e z (was_met e z is) in
         record { queue = h.queue; endpoint = h.endpoint; number = h.number; tail = h.tail; count = h.count; newest = h.newest; next = h.next; ended = h.ended; owed = h.owed };
+    asked = q.asked;
     publishing = λ e z is on. publishing_then z (s.parts (32 * z.queue)) (a.courses (32 * z.queue)) (a.numbers (32 * z.queue)) w.driver.command (q.publishing e z (was_met e z is) on);
     read = λ e t z y is going next here. q.read e t z y (was_met e z is) going next here;
     telling = λ e z is kept.

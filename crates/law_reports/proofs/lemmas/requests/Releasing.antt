@@ -12,21 +12,17 @@ use Rattle.mem_runs.specs.Book.{holding}
 use Rattle.drv_table.specs.declared.content.Endpoint.{Endpoint}
 use Rattle.drv_table.specs.declared.content.Transfer.{Transfer}
 use Rattle.drv_table.specs.declared.rows.DriverRow.{DriverRow}
-use Rattle.drv_table.specs.declared.rows.DriverRow.TheVariants as rows
 use Rattle.drv_table.specs.DriverContent.{DriverContent}
 use Rattle.drv_table.specs.Harvests.{note_at}
 use Rattle.drv_table.specs.Parts.{Parts}
-use Rattle.drv_table.specs.Rows.{driver_row, after_driver_row}
+use Rattle.drv_table.specs.Rows.{after_driver_row}
 use Rattle.drv_table.specs.Releases.{after_transfer, freed_by, free_qtds}
 use Rattle.claims_driver.specs.Owners.{note_in}
 use Rattle.law_driver.specs.endpoint_lives.Lives.{told_end}
 use Rattle.law_driver.specs.chained_transfers.Turns.{AreReportedTo, IsNext, turn_of, turn_in}
 use Rattle.law_structures.specs.lent_structures.Structures.{Structures, StructureSets}
-use Rattle.claims_base.specs.Controller.{opening_base}
 use Rattle.law_driver_ring.specs.Released.{names_one, blocks_of, goes_of}
 use Rattle.law_driver_ring.proofs.Blocks.{mine}
-use Rattle.law_queues.proofs.lemmas.released_queues.Queues.{goes_off, dummy_off}
-use Rattle.law_queues.proofs.lemmas.released_queues.Going.{head_stays, buffers_stay}
 use Rattle.claims_report.specs.Requests.{Request}
 use Rattle.law_request.specs.Host.{Stage, Setup, Data}
 use Rattle.law_ring.specs.Effects.{buffer_of}
@@ -52,15 +48,25 @@ use Rattle.law_reports.specs.requests.Records.{AreRecords}
 use Rattle.law_reports.proofs.lemmas.requests.Rows.{row_keeps_records}
 use Rattle.law_reports.specs.requests.Telling.{IsTelling}
 use Rattle.law_reports.proofs.lemmas.requests.Telling.{quiet_row_keeps_telling}
-use Rattle.law_world.specs.streams.Whole.{IsWhole}
-use Rattle.law_world.proofs.lemmas.streams.Returning.{due, owed, transfer, endpoint, returning, stand}
+use Rattle.law_world.proofs.lemmas.streams.Returning.{transfer, endpoint, returning}
 use Rattle.law_world.proofs.lemmas.streams.Releasing.{standing, whole_released}
-use Rattle.law_reports.specs.requests.Asking.{Sides, Asking, left_with, has_left, next_with, HasCourse, IsMetControl, IsReadTo, IsAskingWorld, HasAskingWorld}
-use Rattle.law_reports.specs.requests.Rows.{ReleaseKeepsAsking, IsHeadOfNone}
+use Rattle.law_reports.specs.requests.Asking.{Sides, Asking, left_with, has_left, next_with, HasCourse, IsMetControl, IsReadTo, IsAskingWorld, HasAskingWorld, AsksIn}
+use Rattle.law_reports.specs.requests.Rows.{ReleaseKeepsAsking}
 use Rattle.law_reports.proofs.lemmas.requests.Has.{asking_of}
 use Rattle.law_reports.proofs.lemmas.requests.Leaving.{idle_quiet, same_endpoint, RowLeaves, LinesLeave, each_still, world_left}
 use Rattle.law_reports.proofs.lemmas.requests.Beside.{HasOwner, owner_of}
 use Rattle.law_reports.proofs.lemmas.requests.Missed.{release_misses_none}
+use Rattle.law_queues.proofs.lemmas.released_queues.StayingQueues.{goes_off, dummy_off}
+use Rattle.law_queues.specs.released_queues.Released.{IsReturning}
+use Rattle.law_queues.specs.released_queues.Staying.{QueuesAreTold, ReleaseLeaves}
+use Rattle.law_queues.proofs.lemmas.released_queues.Staying.{release_stays}
+use Rattle.law_driver_ring.specs.fed_queues.Places.{IsMet}
+use Rattle.law_driver.proofs.lemmas.chained_transfers.Holding.{held_alive}
+use Rattle.law_reports.specs.requests.Footing.{IsFooting}
+use Rattle.law_reports.proofs.lemmas.requests.Footing.{footing}
+use Rattle.drv_table.specs.declared.content.Command.{Command}
+use Rattle.drv_table.specs.declared.rows.DriverRow.TheVariants as rows
+use Rattle.drv_table.specs.declared.content.Command.TheVariants as unfinished
 
 -- ---- numbers
 
@@ -97,18 +103,14 @@ module _ (d : DriverContent) (t : ℕ) (r : Request) (x : Places) (l : IsLaidOut
   place_is Data = data_place d t r x l
   place_is _ = inr (status_place d t r x l)
 
-module _ (g : Sides) (fixed : Fixed) (takes : ℕ → ℕ → Bool) (member : ℕ → Bool) (x : Streams) (s : Standing) (a : Asking) (v : Windows) (asks : ℕ → Request) (w : World) (t : ℕ) (row : driver_row (driver_parts w) ≡ rows.ReleaseTransfer t) (head : IsHeadOfNone x) (k : IsWhole fixed takes member x s w) (z : IsAskingWorld g fixed member s a v asks w) where
+module _ (g : Sides) (fixed : Fixed) (member : ℕ → Bool) (x : Streams) (s : Standing) (a : Asking) (v : Windows) (asks : ℕ → Request)
+    (w : World) (k : IsFooting member x s w) (z : IsAskingWorld g fixed member s a v asks w)
+    (t : ℕ) (y : Transfer) (own : Endpoint) (r : IsReturning w.driver t y own) where
   abbrev d : DriverContent
   d = w.driver
 
   abbrev p : Parts
   p = driver_parts w
-
-  abbrev y : Transfer
-  y = transfer fixed takes member x s w t row k
-
-  abbrev own : Endpoint
-  own = endpoint fixed takes member x s w t row k
 
   abbrev n : ℕ
   n = 32 * own.queue
@@ -123,17 +125,41 @@ module _ (g : Sides) (fixed : Fixed) (takes : ℕ → ℕ → Bool) (member : �
   after = after_transfer (driver_parts w) t (Some y) (free_qtds w.driver.notes (holding w.driver.book w.memory) y.first y.qtds)
 
   row_is : after_driver_row (rows.ReleaseTransfer t) (driver_parts w) ≡ after
-  row_is = ap (λ (o : Option Transfer). after_transfer (driver_parts w) t o (freed_by w.driver (holding w.driver.book w.memory) o)) (returning fixed takes member x s w t row k).here
+  row_is = ap (λ (o : Option Transfer). after_transfer (driver_parts w) t o (freed_by w.driver (holding w.driver.book w.memory) o)) r.here
 
   idle : w.driver.command ≡ None
-  idle = (due fixed takes member x s w t row k).idle
+  idle = r.free
+
+  abbrev told : QueuesAreTold s.parts (driver_parts w) s.order s.out
+  told = record {
+    driven = k.driven;
+    owners = k.owners;
+    in_runs = k.in_runs;
+    asynchronous = k.turns.asynchronous;
+    chained = k.turns.chained;
+    turns = k.turns.turns;
+    fed = k.queues.fed;
+    last = k.queues.last;
+    still_out = k.queues.out_are;
+    fronts = k.fronts;
+    rise = k.controls.rises;
+  }
+
+  met : IsMet w.driver y.endpoint own
+  met = record {
+    there = record { linked = λ is. let never : ◌≡◌ {A = Option Command} None (Some (unfinished.Open own.queue)) = sym r.free ∙ is in cc; kept = held_alive w.driver t y own k.turns.turns r.here r.held r.endpoint };
+    near = r.near;
+  }
+
+  leaves_all : ReleaseLeaves s.parts (driver_parts w) s.order s.out t y own n goes
+  leaves_all = release_stays s.parts (driver_parts w) s.order s.out t y own told r (k.sound y.endpoint own r.endpoint met)
 
   -- what was shown of the queue, here
-  off : (c : ℕ) → mine t ((stand fixed takes member x s w t row k).owners.owner c) ≡ false → goes (32 * c) ≡ false
-  off = goes_off opening_base member s.parts s.hand w.control.walk (driver_parts w) s.order s.out t y own (stand fixed takes member x s w t row k) (returning fixed takes member x s w t row k)
+  off : (c : ℕ) → mine t (k.owners.owner c) ≡ false → goes (32 * c) ≡ false
+  off = goes_off s.parts (driver_parts w) s.order s.out t y own told r
 
   head_off : goes n ≡ false
-  head_off = head_stays opening_base member s.parts s.hand w.control.walk (driver_parts w) s.order s.out t y own (stand fixed takes member x s w t row k) (returning fixed takes member x s w t row k)
+  head_off = leaves_all.head
 
   leaves : RowLeaves w.driver after.driver
   unfolding same_endpoint
@@ -151,14 +177,16 @@ module _ (g : Sides) (fixed : Fixed) (takes : ℕ → ℕ → Bool) (member : �
 
   -- ---- requests that wait
 
-  course_at : (j : ℕ) → (has : have_queues a.courses j ≡ true) → (o : HasOwner w a j) → HasCourse g w.driver o.number o.endpoint (a.courses j) (a.numbers j)
+  course_at : (j : ℕ) → (has : have_queues a.courses j ≡ true) → (o : HasOwner g w a j)
+      → HasCourse g w.driver o.number o.endpoint (a.courses j) (a.numbers j)
   course_at j has o = subst (λ (i : ℕ). HasCourse g w.driver o.number o.endpoint (a.courses i) (a.numbers i)) (sym o.at) (z.each o.number o.endpoint o.control)
 
-  waits : (j i : ℕ) (r : Transfer) → have_queues a.courses j ≡ true → i < (a.numbers j).requests.count → slice_get w.driver.transfers ((a.numbers j).number i) ≡ Some r → r.reported ≡ false
-  waits j i r has few there = by (told_end o.endpoint) refl
+  waits : (j i : ℕ) (tr : Transfer) → have_queues a.courses j ≡ true → i < (a.numbers j).requests.count
+      → slice_get w.driver.transfers ((a.numbers j).number i) ≡ Some tr → tr.reported ≡ false
+  waits j i tr has few there = by (told_end o.endpoint) refl
     where
-      o : HasOwner w a j
-      o = owner_of g fixed member x s a v asks w k.feeding z j has
+      o : HasOwner g w a j
+      o = owner_of g fixed member x s a v asks w k z j has
 
       c : HasCourse g w.driver o.number o.endpoint (a.courses j) (a.numbers j)
       c = course_at j has o
@@ -166,43 +194,45 @@ module _ (g : Sides) (fixed : Fixed) (takes : ℕ → ℕ → Bool) (member : �
       of : IsOfTransfer w.driver (a.numbers j).endpoint ((a.numbers j).number i)
       of = (z.records.each j has).numbered.own.transfers i few
 
-      its : r.endpoint ≡ o.number
-      its = ap (λ (q : Transfer). q.endpoint) (same_Some r of.own (sym there ∙ of.here)) ∙ of.endpoint ∙ o.is
+      its : tr.endpoint ≡ o.number
+      its = ap (λ (q : Transfer). q.endpoint) (same_Some tr of.own (sym there ∙ of.here)) ∙ of.endpoint ∙ o.is
 
-      later : IsNext (turn_in w.driver.transfers) o.number ((a.numbers j).number 0) → (b : Bool) → r.reported ≡ b → r.reported ≡ false
+      later : IsNext (turn_in w.driver.transfers) o.number ((a.numbers j).number 0) → (b : Bool) → tr.reported ≡ b → tr.reported ≡ false
       later first false is = is
       later first true is =
-          ⊎_elim {C = r.reported ≡ false}
+          ⊎_elim {C = tr.reported ≡ false}
           (λ (zero : i ≡ 0).
-          ap (λ (q : _). q.reported) (same_Some (turn_of r) first.transfer (ap (option_map turn_of) (sym there ∙ ap (λ (m : ℕ). slice_get w.driver.transfers ((a.numbers j).number m)) zero) ∙ first.here)) ∙ first.waits)
+          ap (λ (q : _). q.reported) (same_Some (turn_of tr) first.transfer (ap (option_map turn_of) (sym there ∙ ap (λ (m : ℕ). slice_get w.driver.transfers ((a.numbers j).number m)) zero) ∙ first.here)) ∙ first.waits)
           (λ (differs : i ≢ 0).
           absurd (true≢false
-          (sym (k.feeding.turns.turns.turns.reported ((a.numbers j).number 0) ((a.numbers j).number i) first.transfer (turn_of r) ((z.records.each j has).numbered.own.rising 0 i (omega (arith, differs)) few) first.here
+          (sym (k.turns.turns.turns.reported ((a.numbers j).number 0) ((a.numbers j).number i) first.transfer (turn_of tr) ((z.records.each j has).numbered.own.rising 0 i (omega (arith, differs)) few) first.here
           (ap (option_map turn_of) there) (its ∙ sym first.endpoint) is) ∙ first.waits)))
           (cases_eq i 0)
 
-      by : (q : Option EndCause) → told_end o.endpoint ≡ q → r.reported ≡ false
+      by : (q : Option EndCause) → told_end o.endpoint ≡ q → tr.reported ≡ false
       by None is =
           later
           (subst (AreReportedTo (turn_in w.driver.transfers) o.number) (c.next is ∙ some_next (a.numbers j).requests.count ((a.numbers j).number 0) (omega (arith, few)))
-          (k.feeding.turns.turns.turns.next o.number o.endpoint o.control.is.here is)) r.reported refl
+          (k.turns.turns.turns.next o.number o.endpoint o.control.is.here is)) tr.reported refl
       by (Some cause) is = let none = (c.ended cause is).0 in absurd (omega (arith, few, none))
 
   other : (j i : ℕ) → have_queues a.courses j ≡ true → i < (a.numbers j).requests.count → (a.numbers j).number i ≢ t
   other j i has few same =
-      let o = owed fixed takes member x s w t row k in
-      true≢false (sym o.reported ∙ waits j i y has few (ap (slice_get w.driver.transfers) same ∙ o.here))
+      true≢false (sym r.reported ∙ waits j i y has few (ap (slice_get w.driver.transfers) same ∙ r.here))
 
   -- a qTD of another transfer stays
-  piece_stays : (u c : ℕ) (r : Transfer) → u ≢ t → slice_get w.driver.transfers u ≡ Some r → IsQtdAt w.driver r c → r.released ≡ false → goes c ≡ false
-  piece_stays u c r differs there at held =
+  piece_stays : (u c : ℕ) (q : Transfer) → u ≢ t → slice_get w.driver.transfers u ≡ Some q → IsQtdAt w.driver q c → q.released ≡ false
+      → goes c ≡ false
+  piece_stays u c q differs there at held =
       ap goes at.at
-      ∙ off at.block (ap (mine t) (owned_piece w.driver (stand fixed takes member x s w t row k).owners u at.block r there held at.piece) ∙ other_number u t differs)
+      ∙ off at.block (ap (mine t) (owned_piece w.driver k.owners u at.block q there held at.piece) ∙ other_number u t differs)
 
-  laid_at : (j i : ℕ) → have_queues a.courses j ≡ true → i < (a.numbers j).requests.count → IsLaidOut w.driver ((a.numbers j).number i) ((a.numbers j).requests.requests i) ((a.numbers j).requests.places i)
+  laid_at : (j i : ℕ) → have_queues a.courses j ≡ true → i < (a.numbers j).requests.count
+      → IsLaidOut w.driver ((a.numbers j).number i) ((a.numbers j).requests.requests i) ((a.numbers j).requests.places i)
   laid_at j i has few = (z.records.each j has).numbered.own.laid i (omega arith) few
 
-  place_stays : (j i : ℕ) (st : Stage) → have_queues a.courses j ≡ true → i < (a.numbers j).requests.count → goes (place_at ((a.numbers j).requests.places i) st) ≡ false
+  place_stays : (j i : ℕ) (st : Stage) → have_queues a.courses j ≡ true → i < (a.numbers j).requests.count
+      → goes (place_at ((a.numbers j).requests.places i) st) ≡ false
   place_stays j i st has few =
       let l = laid_at j i has few in
       ⊎_elim {C = goes (place_at ((a.numbers j).requests.places i) st) ≡ false}
@@ -220,15 +250,15 @@ module _ (g : Sides) (fixed : Fixed) (takes : ℕ → ℕ → Bool) (member : �
         subst (λ (u : Sent). goes (place_at u.places st) ≡ false) (ahead.same i few) (place_stays n i st has (omega (arith, few, more))) in (
           stays,
           λ pages j bytes is.
-              buffers_stay opening_base member s.parts s.hand w.control.walk (driver_parts w) s.order s.out t y own (stand fixed takes member x s w t row k) (returning fixed takes member x s w t row k)
+              leaves_all.buffers
               (place_at ((queues a.courses n).places i) st) q there stays (record { pages = pages; start = j; bytes = bytes; here = is }),
         );
     tail = λ has.
-        let o = owner_of g fixed member x s a v asks w k.feeding z n has in
+        let o = owner_of g fixed member x s a v asks w k z n has in
         let c = course_at n has o in
         ap goes (c.tail ∙ leaves.quiet.tail o.number o.endpoint)
         ∙ off o.endpoint.dummy
-        (dummy_off opening_base member s.parts s.hand w.control.walk (driver_parts w) s.order s.out t y own (stand fixed takes member x s w t row k) (returning fixed takes member x s w t row k) o.number o.endpoint o.control.is.here o.control.met.there.kept);
+        (dummy_off s.parts (driver_parts w) s.order s.out t y own told r o.number o.endpoint o.control.is.here o.control.met.there.kept);
   }
 
   stand_now : CoursesStand control_of member a.courses now s.hand (wired fixed w)
@@ -236,16 +266,16 @@ module _ (g : Sides) (fixed : Fixed) (takes : ℕ → ℕ → Bool) (member : �
 
   -- ---- what is recorded
 
-  left_by : (e : ℕ) (o : Option Endpoint) → slice_get w.driver.endpoints e ≡ o → left_with after.driver e o ≡ true → has_left w.driver e ≡ true
+  left_by : (e : ℕ) (o : Option Endpoint) → slice_get w.driver.endpoints e ≡ o → left_with g after.driver e o ≡ true
+      → has_left g w.driver e ≡ true
   left_by e None is on = absurd (false≢true on)
-  left_by e (Some i) is on = ap (left_with w.driver e) is ∙ on
+  left_by e (Some i) is on = ap (left_with g w.driver e) is ∙ on
 
-  recorded : AreRecords after.driver asks a.courses a.numbers (has_left after.driver) v
+  recorded : AreRecords after.driver asks a.courses a.numbers (has_left g after.driver) v
   recorded =
-      regone after.driver asks a.courses a.numbers (has_left w.driver) (has_left after.driver) v
-      (λ e on. left_by e (slice_get w.driver.endpoints e) refl on)
-      (subst (λ (q : Parts). AreRecords q.driver asks a.courses a.numbers (has_left w.driver) v) row_is
-      (row_keeps_records (driver_parts w) (rows.ReleaseTransfer t) asks a.courses a.numbers (has_left w.driver) v (λ j has. tt)
+      regone after.driver asks a.courses a.numbers (has_left g w.driver) (has_left g after.driver) v (λ e on. left_by e (slice_get w.driver.endpoints e) refl on)
+      (subst (λ (q : Parts). AreRecords q.driver asks a.courses a.numbers (has_left g w.driver) v) row_is
+      (row_keeps_records (driver_parts w) (rows.ReleaseTransfer t) asks a.courses a.numbers (has_left g w.driver) v (λ j has. tt)
       (λ j i has few given. other j i has few (sym (same_Some t ((a.numbers j).number i) given))) z.records))
 
   -- ---- what is read
@@ -256,31 +286,32 @@ module _ (g : Sides) (fixed : Fixed) (takes : ℕ → ℕ → Bool) (member : �
       (λ (same : m ≡ n).
       subst (λ (i : ℕ). SparesElement s.parts now i c) (sym same)
       (spares_element s.parts n goes head_off
-      (buffers_stay opening_base member s.parts s.hand w.control.walk (driver_parts w) s.order s.out t y own (stand fixed takes member x s w t row k) (returning fixed takes member x s w t row k)) c stays))
+      leaves_all.buffers c stays))
       (λ (differs : m ≢ n).
       let same : now m ≡ s.parts m = those_beside s.parts n goes m differs in
       record { element = λ q here. ap (λ (part : Structures). part c) same ∙ here; bytes = λ q here. ap (λ (part : Structures). buffer_of part q) same }) (cases_eq m n)
 
-  met_was : (e : ℕ) (i : Endpoint) → IsMetControl after.driver e i → IsMetControl w.driver e i
+  met_was : (e : ℕ) (i : Endpoint) → IsMetControl g after.driver e i → IsMetControl g w.driver e i
   met_was e i m = record {
     is = record { here = m.is.here; control = m.is.control };
     met = record { there = record { linked = m.met.there.linked; kept = m.met.there.kept }; near = m.met.near };
   }
 
-  reads : (e u : ℕ) (i : Endpoint) (r : Transfer) → IsMetControl after.driver e i → told_end i ≡ None → i.next ≡ Some u → slice_get after.driver.transfers u ≡ Some r
-      → IsReadTo s.hand now (32 * i.queue) (note_at w.driver.notes) r ((a.numbers (32 * i.queue)).requests.requests 0)
-  reads e u i r m going next there =
+  reads : (e u : ℕ) (i : Endpoint) (tr : Transfer) → IsMetControl g after.driver e i → told_end i ≡ None → i.next ≡ Some u
+      → slice_get after.driver.transfers u ≡ Some tr
+      → IsReadTo s.hand now (32 * i.queue) (note_at w.driver.notes) tr ((a.numbers (32 * i.queue)).requests.requests 0)
+  reads e u i tr m going next there =
       let c = z.each e i (met_was e i m) in
       let first = next_is (a.numbers (32 * i.queue)).requests.count ((a.numbers (32 * i.queue)).number 0) u (sym (c.next going) ∙ next) in
       let differs : u ≢ t = λ same. other (32 * i.queue) 0 c.queue first.0 (first.1 ∙ same) in
-      let was : slice_get w.driver.transfers u ≡ Some r = sym (set_beside w.driver.transfers t u (record y { released = true }) differs) ∙ there in
-      let before : IsReadTo s.hand s.parts (32 * i.queue) (note_at w.driver.notes) r ((a.numbers (32 * i.queue)).requests.requests 0) = z.read e u i r (met_was e i m) going next was in
+      let was : slice_get w.driver.transfers u ≡ Some tr = sym (set_beside w.driver.transfers t u (record y { released = true }) differs) ∙ there in
+      let before : IsReadTo s.hand s.parts (32 * i.queue) (note_at w.driver.notes) tr ((a.numbers (32 * i.queue)).requests.requests 0) = z.read e u i tr (met_was e i m) going next was in
       let l = laid_at (32 * i.queue) 0 c.queue first.0 in
-      let same : l.own ≡ r = same_Some l.own r (sym l.here ∙ ap (slice_get w.driver.transfers) first.1 ∙ was) in
-      let two : 2 ≤ r.qtds = subst (λ (q : Transfer). 2 ≤ q.qtds) same (two_at_least w.driver ((a.numbers (32 * i.queue)).number 0) ((a.numbers (32 * i.queue)).requests.requests 0) ((a.numbers (32 * i.queue)).requests.places 0) l) in
-      let held : r.released ≡ false = ap (λ (q : Transfer). q.released) (sym same) ∙ l.held in
-      let stays : goes (32 * (note_at w.driver.notes r.first).next) ≡ false =
-      piece_stays u (32 * (note_at w.driver.notes r.first).next) r differs was (record { block = (note_at w.driver.notes r.first).next; at = refl; piece = second_piece (note_in w.driver.notes) r.first r.qtds two }) held in
+      let same : l.own ≡ tr = same_Some l.own tr (sym l.here ∙ ap (slice_get w.driver.transfers) first.1 ∙ was) in
+      let two : 2 ≤ tr.qtds = subst (λ (q : Transfer). 2 ≤ q.qtds) same (two_at_least w.driver ((a.numbers (32 * i.queue)).number 0) ((a.numbers (32 * i.queue)).requests.requests 0) ((a.numbers (32 * i.queue)).requests.places 0) l) in
+      let held : tr.released ≡ false = ap (λ (q : Transfer). q.released) (sym same) ∙ l.held in
+      let stays : goes (32 * (note_at w.driver.notes tr.first).next) ≡ false =
+      piece_stays u (32 * (note_at w.driver.notes tr.first).next) tr differs was (record { block = (note_at w.driver.notes tr.first).next; at = refl; piece = second_piece (note_in w.driver.notes) tr.first tr.qtds two }) held in
       record {
         setup = before.setup;
         data_at = λ has one.
@@ -294,7 +325,8 @@ module _ (g : Sides) (fixed : Fixed) (takes : ℕ → ℕ → Bool) (member : �
 
   -- ---- the world
 
-  lines : (e : ℕ) (i : Endpoint) → IsMetControl after.driver e i → LinesLeave w.driver after.driver asks v e i.desc.name (g.whole i.desc.name)
+  lines : (e : ℕ) (i : Endpoint) → IsMetControl g after.driver e i
+      → LinesLeave w.driver after.driver asks v e i.desc.name (g.whole i.desc.name)
   lines e i m = record {
     lines = refl;
     telling = λ reported waiting told.
@@ -303,16 +335,21 @@ module _ (g : Sides) (fixed : Fixed) (takes : ℕ → ℕ → Bool) (member : �
         told);
   }
 
-  world : IsAskingWorld g fixed member (standing fixed takes member x s w t row k) (record { courses = a.courses; numbers = a.numbers }) v asks (with_parts w after)
-  world =
-      world_left g fixed member s a v asks w after leaves z lines (λ name u. refl) member (standing fixed takes member x s w t row k) a.courses (release_misses_none s.parts n goes z.unmissed.structures) z.unmissed.in_hand stand_now recorded (each_still g fixed member s a v asks w after leaves z) reads
+  abbrev later : Standing
+  later = record s { parts = now }
 
-  pub released_world : HasAskingWorld g fixed takes x.stream x.packets v asks (with_parts w (after_driver_row (rows.ReleaseTransfer t) (driver_parts w)))
-  released_world =
-      asking_of g fixed takes member x (standing fixed takes member x s w t row k) (record { courses = a.courses; numbers = a.numbers }) v asks (with_parts w (after_driver_row (rows.ReleaseTransfer t) (driver_parts w)))
-      (whole_released fixed takes member x s w t row k)
-      (subst (λ (q : Parts). IsAskingWorld g fixed member (standing fixed takes member x s w t row k) (record { courses = a.courses; numbers = a.numbers }) v asks (with_parts w q)) (sym row_is) world) head
+  world : AsksIn g member now s.hand (record { courses = a.courses; numbers = a.numbers }) v asks after.driver after.memory (wired fixed w)
+  world =
+      world_left g fixed member s a v asks w after leaves z lines (λ name u. refl) member later a.courses (λ j has. has) (release_misses_none (have_queues a.courses) s.parts n goes z.unmissed.structures) z.unmissed.in_hand stand_now recorded
+      (each_still g fixed member s a v asks w after leaves z) reads
+
+  pub released_asks : AsksIn g member now s.hand (record { courses = a.courses; numbers = a.numbers }) v asks (after_driver_row (rows.ReleaseTransfer t) (driver_parts w)).driver (after_driver_row (rows.ReleaseTransfer t) (driver_parts w)).memory
+      (wired fixed w)
+  released_asks = subst (λ (q : Parts). AsksIn g member now s.hand (record { courses = a.courses; numbers = a.numbers }) v asks q.driver q.memory (wired fixed w)) (sym row_is) world
 
 pub release_keeps_asking : ReleaseKeepsAsking
 release_keeps_asking g fixed takes member x s a v asks w t row head k z =
-    subst (λ (r : DriverRow). HasAskingWorld g fixed takes x.stream x.packets v asks (with_parts w (after_driver_row r (driver_parts w)))) (sym row) (released_world g fixed takes member x s a v asks w t row head k z)
+    subst (λ (r : DriverRow). HasAskingWorld g fixed takes x.stream x.packets v asks (with_parts w (after_driver_row r (driver_parts w)))) (sym row)
+    (asking_of g fixed takes member x (standing fixed takes member x s w t row k) (record { courses = a.courses; numbers = a.numbers }) v asks (with_parts w (after_driver_row (rows.ReleaseTransfer t) (driver_parts w)))
+    (whole_released fixed takes member x s w t row k)
+    (released_asks g fixed member x s a v asks w (footing fixed takes member x s w k head) z t (transfer fixed takes member x s w t row k) (endpoint fixed takes member x s w t row k) (returning fixed takes member x s w t row k)) head)

@@ -17,7 +17,6 @@ use Rattle.drv_table.specs.declared.rows.DriverRow.TheVariants as rows
 use Rattle.drv_table.specs.DriverContent.{DriverContent}
 use Rattle.drv_table.specs.Rows.{driver_row, after_driver_row}
 use Rattle.drv_table.specs.Leaving.{doorbell_command, bell_after}
-use Rattle.drv_table.specs.Words.{is_control}
 use Rattle.law_driver.specs.run_owners.Due.{IsDue}
 use Rattle.law_driver.proofs.lemmas.run_owners.Reasons.{each_event_is_due}
 use Rattle.law_queues.specs.leaving_drivers.Before.{NearSame}
@@ -35,25 +34,31 @@ use Rattle.law_reports.specs.requests.Asking.{Sides, Asking, has_left, left_with
 use Rattle.law_reports.specs.requests.AskingLaws.{StillKeepsAsking}
 use Rattle.law_reports.proofs.lemmas.requests.Has.{asking_of}
 use Rattle.law_reports.proofs.lemmas.requests.Missed.{idle_misses}
+use Rattle.law_reports.specs.requests.Courses.{have_queues}
 
 -- what such a row changes of the driver's content
 abbrev stilled : DriverContent → List ℕ → List ℕ → List ℕ → Bell → Turn → Bool → List Removal → DriverContent
 stilled d cleared rung waiting bell turn status_next removals =
     record d { cleared = cleared; rung = rung; waiting = waiting; bell = bell; turn = turn; periodic = record d.periodic { status_next = status_next; removals = removals } }
 
-module _ (g : Sides) (fixed : Fixed) (member : ℕ → Bool) (s : Standing) (a : Asking) (v : Windows) (asks : ℕ → Request) (w : World) (q : IsAskingWorld g fixed member s a v asks w) where
-  module _ (cleared rung waiting : List ℕ) (bell : Bell) (turn : Turn) (status_next : Bool) (removals : List Removal) (registers : RegisterFile) (idle : w.driver.command ≡ None) (near : NearSame w.driver (stilled w.driver cleared rung waiting bell turn status_next removals)) where
+module _ (g : Sides) (fixed : Fixed) (member : ℕ → Bool) (s : Standing) (a : Asking) (v : Windows) (asks : ℕ → Request) (w : World)
+    (q : IsAskingWorld g fixed member s a v asks w) where
+  module _ (cleared rung waiting : List ℕ) (bell : Bell) (turn : Turn) (status_next : Bool) (removals : List Removal)
+      (registers : RegisterFile) (idle : w.driver.command ≡ None)
+      (near : NearSame w.driver (stilled w.driver cleared rung waiting bell turn status_next removals)) where
     abbrev d : DriverContent
     d = w.driver
 
     abbrev f : DriverContent
     f = stilled w.driver cleared rung waiting bell turn status_next removals
 
-    left_before : (e : ℕ) (o : Option DriverEndpoint) → slice_get w.driver.endpoints e ≡ o → left_with (stilled w.driver cleared rung waiting bell turn status_next removals) e o ≡ true → left_with w.driver e o ≡ true
+    left_before : (e : ℕ) (o : Option DriverEndpoint) → slice_get w.driver.endpoints e ≡ o
+        → left_with g (stilled w.driver cleared rung waiting bell turn status_next removals) e o ≡ true → left_with g w.driver e o ≡ true
     left_before e None here on = absurd (false≢true on)
-    left_before e (Some z) here on = subst (λ (b : Bool). (is_control z.desc.kind && not b) ≡ true) (near e z z here here) on
+    left_before e (Some z) here on = subst (λ (b : Bool). (g.asks z.desc && not b) ≡ true) (near e z z here here) on
 
-    was_met : (e : ℕ) (z : DriverEndpoint) → IsMetControl (stilled w.driver cleared rung waiting bell turn status_next removals) e z → IsMetControl w.driver e z
+    was_met : (e : ℕ) (z : DriverEndpoint) → IsMetControl g (stilled w.driver cleared rung waiting bell turn status_next removals) e z
+        → IsMetControl g w.driver e z
     was_met e z is = record {
       is = record { here = is.is.here; control = is.is.control };
       met = record { there = record { linked = is.met.there.linked; kept = is.met.there.kept }; near = sym (near e z z is.is.here is.is.here) ∙ is.met.near };
@@ -66,18 +71,19 @@ module _ (g : Sides) (fixed : Fixed) (member : ℕ → Bool) (s : Standing) (a :
       notes = λ t b y here of held piece. refl;
     }
 
-    records_then : AreRecords (stilled w.driver cleared rung waiting bell turn status_next removals) asks a.courses a.numbers (has_left (stilled w.driver cleared rung waiting bell turn status_next removals)) v
+    records_then : AreRecords (stilled w.driver cleared rung waiting bell turn status_next removals) asks a.courses a.numbers (has_left g (stilled w.driver cleared rung waiting bell turn status_next removals)) v
     records_then =
-        let k = accepted_keeps_records d f asks a.courses a.numbers (has_left d) v keeps refl q.records in
+        let k = accepted_keeps_records d f asks a.courses a.numbers (has_left g d) v keeps refl q.records in
         record { each = k.each; left = λ e left. k.left e (left_before e (slice_get w.driver.endpoints e) refl left); none = k.none }
 
-    asking_stilled : IsAskingWorld g fixed member s a v asks (record w { driver = stilled w.driver cleared rung waiting bell turn status_next removals; registers = registers })
+    pub asking_stilled : IsAskingWorld g fixed member s a v asks (record w { driver = stilled w.driver cleared rung waiting bell turn status_next removals; registers = registers })
     asking_stilled = record {
       stand = q.stand;
       records = records_then;
       each = λ e z is.
           let h = q.each e z (was_met e z is) in
           record { queue = h.queue; endpoint = h.endpoint; number = h.number; tail = h.tail; count = h.count; newest = h.newest; next = h.next; ended = h.ended; owed = h.owed };
+      asked = q.asked;
       publishing = λ e z is on. subst (λ (o : Option Command). IsPublishingBy f w.memory z (s.parts (32 * z.queue)) (a.courses (32 * z.queue)) (a.numbers (32 * z.queue)) o) (sym idle) tt;
       read = λ e t z y is going next here. q.read e t z y (was_met e z is) going next here;
       telling = λ e z is kept.
@@ -96,13 +102,14 @@ module _ (g : Sides) (fixed : Fixed) (member : ℕ → Bool) (s : Standing) (a :
           record { device = h.device; is = h.is; acted = h.acted };
       unopened = q.unopened;
       untold = q.untold;
-      unmissed = idle_misses w.driver f s.parts s.hand idle q.unmissed;
+      unmissed = idle_misses (have_queues a.courses) w.driver f s.parts s.hand idle q.unmissed;
     }
 
   abbrev after_row : DriverRow → World
   after_row row = with_parts w (after_driver_row row (driver_parts w))
 
-  still_row : (row : DriverRow) → IsDue (driver_parts w) row → is_still row ≡ true → IsAskingWorld g fixed member s a v asks (with_parts w (after_driver_row row (driver_parts w)))
+  still_row : (row : DriverRow) → IsDue (driver_parts w) row → is_still row ≡ true
+      → IsAskingWorld g fixed member s a v asks (with_parts w (after_driver_row row (driver_parts w)))
   still_row rows.RingBell due still =
       asking_stilled w.driver.cleared (w.driver.rung ++ w.driver.waiting) [] bells.Rung turns.Harvest w.driver.periodic.status_next w.driver.periodic.removals
       (after_write w.registers 0x00 doorbell_command) due.0 (bell_is_as_before (driver_parts w) due.0).1

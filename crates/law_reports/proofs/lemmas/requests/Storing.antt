@@ -15,15 +15,13 @@ use Rattle.qh_qtd.specs.declared.qtd.Qtd.{Qtd}
 use Rattle.qh_qtd.specs.declared.queue_head.Qh.{Qh}
 use Rattle.bus_wire.specs.Bus.{Fixed}
 use Rattle.drv_table.specs.declared.content.Command.{Command}
-use Rattle.drv_table.specs.declared.content.Command.TheVariants as unfinished
 use Rattle.drv_table.specs.declared.content.Endpoint.{Endpoint}
 use Rattle.drv_table.specs.declared.content.Mend.{Mend}
 use Rattle.drv_table.specs.declared.content.Transfer.{Transfer}
 use Rattle.drv_table.specs.DriverContent.{DriverContent}
 use Rattle.drv_table.specs.Harvests.{note_at}
 use Rattle.drv_table.specs.Kinds.{is_iso}
-use Rattle.drv_table.specs.Words.{is_control}
-use Rattle.claims_driver.specs.Owners.{Owner, QueueHead as QueueOwner, Element as ElementOwner, runs_of_endpoint, note_in}
+use Rattle.claims_driver.specs.Owners.{Owner, QueueHead as QueueOwner, Element as ElementOwner, runs_of_endpoint, note_in, runs_of_transfer}
 use Rattle.claims_driver.specs.Leaving.{HasOwners}
 use Rattle.law_driver.specs.chained_transfers.Asynchronous.{OnlyAsynchronous}
 use Rattle.law_driver.proofs.lemmas.chained_transfers.BulkAndControl.{not_iso}
@@ -37,7 +35,7 @@ use Rattle.law_controller.proofs.lemmas.controlled_streams.Storing.{spares_head,
 use Rattle.law_driver_ring.specs.Published.{partly}
 use Rattle.law_queues.specs.mended_heads.Owed.{StalledQueue, mends_at, left_of, all_left}
 use Rattle.law_queues.specs.mended_heads.Waiting.{Waits}
-use Rattle.law_queues.specs.publish_laws.Stores.{IsAtStore, published_by, parts_then}
+use Rattle.law_queues.specs.publish_laws.Stores.{parts_then}
 use Rattle.law_driver_ring.proofs.lemmas.told_harvests.Keeping.{spared_is_done}
 use Rattle.claims_report.specs.Requests.{Request}
 use Rattle.law_request.specs.Host.{has_data}
@@ -45,10 +43,10 @@ use Rattle.law_devices.specs.ring_requests.Laid.{Places, IsIdle}
 use Rattle.law_devices.specs.ring_requests.Resting.{IsStopped}
 use Rattle.law_devices.specs.ring_requests.Windows.{Queue, Lines, lines_at}
 use Rattle.claims_report.specs.Controls.{control_of}
-use Rattle.bus_world.specs.World.{World, driver_parts, driver_next}
+use Rattle.bus_world.specs.World.{World}
 use Rattle.law_world.specs.steps.Streaming.{Streams, Standing}
 use Rattle.claims_world.specs.Requests.{Windows, wired, opens}
-use Rattle.law_reports.proofs.lemmas.requests.lemmas.driver_requests.Owning.{qtds_case, second_piece, element_of, owned_piece}
+use Rattle.law_reports.proofs.lemmas.requests.lemmas.driver_requests.Owning.{qtds_case, second_piece, element_of, owned_piece, first_piece}
 use Rattle.law_reports.specs.requests.Coming.{IsComing}
 use Rattle.law_reports.specs.requests.Courses.{Course, NoQueue, Asks, Rests, has_queue, is_asking, queue_in, tail_in, have_queues, IsCourse, CoursesStand, with_course}
 use Rattle.law_reports.specs.requests.QueueChanges.{IsPublishedAt}
@@ -61,16 +59,16 @@ use Rattle.law_reports.specs.requests.TransferChanges.{with_numbers, next_reques
 use Rattle.law_reports.proofs.lemmas.requests.TransferChanging.{course_is_recorded, behind_is_published, first_is_published, halted_is_published}
 use Rattle.law_reports.proofs.lemmas.requests.Rows.{accepted_keeps_records}
 use Rattle.law_queues.specs.standing_fronts.Tails.{tail_block}
-use Rattle.law_world.proofs.lemmas.streams.FeedingStores.{at, after_store}
-use Rattle.law_world.proofs.lemmas.streams.Storing.{by_store, element}
-use Rattle.law_world.specs.streams.Whole.{IsWhole}
-use Rattle.law_reports.specs.requests.Asking.{Sides, Asking, has_left, is_publishing, is_next_of, next_with, HasCourse, IsWritten, IsPublishingAt, IsPublishingBy, IsPublishing, IsReadTo, HasTelling, IsMetControl, IsAskingWorld}
-use Rattle.law_reports.proofs.lemmas.requests.Inside.{AsksIn, inside, outside, same_requests, goes_on}
+use Rattle.law_reports.specs.requests.Asking.{Sides, Asking, has_left, is_publishing, is_next_of, next_with, HasCourse, IsWritten, IsPublishingAt, IsPublishingBy, IsPublishing, IsReadTo, HasTelling, IsMetControl, IsAskingWorld, HasAsks, AsksIn}
+use Rattle.law_reports.proofs.lemmas.requests.Inside.{same_requests, goes_on}
 use Rattle.law_reports.proofs.lemmas.requests.Lending.{next_is}
 use Rattle.law_reports.proofs.lemmas.requests.Newest.{tail_next, laid_at, owner_at, its_next, its_control, not_asked}
 use Rattle.law_reports.specs.requests.Missed.{NoneMissed, PublishesNoneBy}
-use Rattle.law_reports.proofs.lemmas.requests.Missed.{writing_misses_none, partly_unmissed}
+use Rattle.law_reports.proofs.lemmas.requests.Missed.{writing_misses_none, partly_unmissed, narrow_unmissed, narrow_misses}
 use Rattle.qh_qtd.specs.Qtd.{qtd_words, IsQtdInRange}
+use Rattle.law_reports.specs.requests.Footing.{IsFooting}
+use Rattle.law_reports.proofs.lemmas.requests.Courses.{has_with}
+use Rattle.drv_table.specs.declared.content.Command.TheVariants as unfinished
 
 -- ---- stores that are owed
 
@@ -98,7 +96,8 @@ mend_in (n ∷ ms) ns (suc i) m is =
     ⊎_elim {C = IsBehind (n ∷ ms) m ⊎ IsBehind ns m} (λ (one : IsBehind ms m). inl (record { place = suc one.place; is = one.is })) (λ (other : IsBehind ns m). inr other) (mend_in ms ns i m is)
 
 -- the queue head of one is halted
-owed_halted : (parts : StructureSets) (out : ℕ → List ℕ) (ss : List StalledQueue) (i : ℕ) (m : Mend) → AllByRecursion (λ s. Waits s parts out) ss → slice_get (all_left ss) i ≡ Some m → IsStopped parts (32 * m.queue)
+owed_halted : (parts : StructureSets) (out : ℕ → List ℕ) (ss : List StalledQueue) (i : ℕ) (m : Mend)
+    → AllByRecursion (λ s. Waits s parts out) ss → slice_get (all_left ss) i ≡ Some m → IsStopped parts (32 * m.queue)
 owed_halted parts out [] i m waits is = absurd (none_some m is)
 owed_halted parts out (s ∷ ss) i m waits is =
     ⊎_elim {C = IsStopped parts (32 * m.queue)}
@@ -120,25 +119,21 @@ queue_of (QueueOwner e) = e
 queue_of _ = 0
 
 -- at one queue head, and at the others
-changed_each : (courses : ℕ → Course) (numbers : ℕ → Numbers) (n : ℕ) (c : Course) (u : Numbers) (P : ℕ → Course → Numbers → Type 0) (k : ℕ) → (k ≡ n → P n c u) → (k ≢ n → P k (courses k) (numbers k)) → P k (with_course courses n c k) (with_numbers numbers n u k)
+changed_each : (courses : ℕ → Course) (numbers : ℕ → Numbers) (n : ℕ) (c : Course) (u : Numbers) (P : ℕ → Course → Numbers → Type 0) (k : ℕ)
+    → (k ≡ n → P n c u) → (k ≢ n → P k (courses k) (numbers k)) → P k (with_course courses n c k) (with_numbers numbers n u k)
 changed_each courses numbers n c u P k mine others =
     ⊎_elim {C = P k (with_course courses n c k) (with_numbers numbers n u k)}
     (λ (at : k ≡ n). subst (λ (z : Bool). P k (if z then c else courses k) (if z then u else numbers k)) (sym (eq-eqb k n at)) (subst (λ (j : ℕ). P j c u) (sym at) (mine at)))
     (λ (differs : k ≢ n). subst (λ (z : Bool). P k (if z then c else courses k) (if z then u else numbers k)) (sym (other_number k n differs)) (others differs)) (cases_eq k n)
 
-module _ (sides : Sides) (fixed : Fixed) (takes : ℕ → ℕ → Bool) (member : ℕ → Bool) (x : Streams) (s : Standing) (a : Asking) (v : Windows) (asks : ℕ → Request) (w : World) (b : ℕ) (words : List ℕ)
-    (command : w.driver.command ≡ Some (unfinished.Publish b words)) (made : 1 ≤ w.driver.made) (k : IsWhole fixed takes member x s w) (world : IsAskingWorld sides fixed member s a v asks w) where
+module _ (sides : Sides) (fixed : Fixed) (member : ℕ → Bool) (x : Streams) (s : Standing) (a : Asking) (v : Windows) (asks : ℕ → Request)
+    (w : World) (k : IsFooting member x s w)
+    (q : IsAskingWorld sides fixed member s a v asks w) (b : ℕ) (words : List ℕ) (command : w.driver.command ≡ Some (unfinished.Publish b words)) (made : 1 ≤ w.driver.made) (p : IsPublished w.driver s.parts b words) where
   abbrev d : DriverContent
   d = w.driver
 
   abbrev m : Mem
   m = w.memory
-
-  abbrev st : IsAtStore w.driver w.memory member x.streams x.endpoint s.parts s.order s.out b words
-  st = at fixed member x s w b words command made k.feeding
-
-  abbrev p : IsPublished w.driver s.parts b words
-  p = published_by st
 
   abbrev e : ℕ
   e = p.transfer.endpoint
@@ -158,19 +153,19 @@ module _ (sides : Sides) (fixed : Fixed) (takes : ℕ → ℕ → Bool) (member 
   abbrev now : StructureSets
   now = parts_then p
 
-  abbrev q : AsksIn sides member s.parts s.hand a v asks w.driver w.memory (wired fixed w)
-  q = inside sides fixed member s a v asks w world
-
   abbrev has : HasOwners w.driver
-  has = k.feeding.working.place.sound.owners
+  has = k.owners
 
   abbrev only : OnlyAsynchronous w.driver
-  only = k.feeding.turns.asynchronous
+  only = k.turns.asynchronous
 
   -- ---- whose its block is
 
   its_owner : has.owner b ≡ ElementOwner p.number
-  its_owner = (element (driver_parts w) member x.streams x.endpoint s.parts s.order s.out b words st).owned
+  its_owner =
+      let some = k.turns.chained.some p.number (runs_of_transfer p.transfer) (ap (option_map runs_of_transfer) p.there) p.fresh.1 in
+      subst (λ (j : ℕ). has.owner j ≡ ElementOwner p.number) p.place.0
+      (owned_piece d has p.number p.transfer.first p.transfer p.there p.fresh.1 (first_piece (note_in d.notes) p.transfer.first p.transfer.qtds some))
 
   no_requests : IsNoRequests a.courses n (32 * b)
   no_requests i stage on few same =
@@ -186,7 +181,8 @@ module _ (sides : Sides) (fixed : Fixed) (takes : ℕ → ℕ → Bool) (member 
   its_kept = stands_alive p.endpoint (only.endpoints p.transfer.endpoint p.endpoint p.here) p.going
 
   -- the queue head of another endpoint is another one
-  queue_apart : (i : ℕ) (u : Endpoint) → slice_get w.driver.endpoints i ≡ Some u → u.gone ≡ false → i ≢ p.transfer.endpoint → 32 * u.queue ≢ 32 * p.endpoint.queue
+  queue_apart : (i : ℕ) (u : Endpoint) → slice_get w.driver.endpoints i ≡ Some u → u.gone ≡ false → i ≢ p.transfer.endpoint
+      → 32 * u.queue ≢ 32 * p.endpoint.queue
   queue_apart i u here kept differs same =
       let one : u.queue ≡ p.endpoint.queue = omega (arith, same) in
       differs (same_endpoint i e (sym (queue_owner i u here kept) ∙ ap has.owner one ∙ queue_owner e p.endpoint p.here its_kept))
@@ -202,7 +198,8 @@ module _ (sides : Sides) (fixed : Fixed) (takes : ℕ → ℕ → Bool) (member 
 
   -- ---- what was read
 
-  data_apart : (i t : ℕ) (u : Endpoint) (y : Transfer) → IsMetControl w.driver i u → told_end u ≡ None → u.next ≡ Some t → slice_get w.driver.transfers t ≡ Some y
+  data_apart : (i t : ℕ) (u : Endpoint) (y : Transfer) → IsMetControl sides w.driver i u → told_end u ≡ None → u.next ≡ Some t
+      → slice_get w.driver.transfers t ≡ Some y
       → has_data ((a.numbers (32 * u.queue)).requests.requests 0) ≡ true → y.left ≡ 1 → (note_at w.driver.notes y.first).next ≢ b
   data_apart i t u y is going next there some one same =
       let h = 32 * u.queue in
@@ -220,7 +217,8 @@ module _ (sides : Sides) (fixed : Fixed) (takes : ℕ → ℕ → Bool) (member 
       let left : y.left ≡ y.qtds = ap (λ (j : Transfer). j.left) it ∙ p.place.2 ∙ sym (ap (λ (j : Transfer). j.qtds) it) in
       omega (arith, left, many, one)
 
-  read_then : (i t : ℕ) (u : Endpoint) (y : Transfer) → IsMetControl w.driver i u → told_end u ≡ None → u.next ≡ Some t → slice_get w.driver.transfers t ≡ Some y
+  read_then : (i t : ℕ) (u : Endpoint) (y : Transfer) → IsMetControl sides w.driver i u → told_end u ≡ None → u.next ≡ Some t
+      → slice_get w.driver.transfers t ≡ Some y
       → IsReadTo s.hand now (32 * u.queue) (note_at w.driver.notes) y ((a.numbers (32 * u.queue)).requests.requests 0)
   read_then i t u y is going next there =
       let r = q.read i t u y is going next there in
@@ -241,7 +239,7 @@ module _ (sides : Sides) (fixed : Fixed) (takes : ℕ → ℕ → Bool) (member 
 
   -- ---- the one that is being published
 
-  module _ (i : ℕ) (u : Endpoint) (is : IsMetControl w.driver i u) (next : is_next_of w.driver i ≡ true) where
+  module _ (i : ℕ) (u : Endpoint) (is : IsMetControl sides w.driver i u) (next : is_next_of w.driver i ≡ true) where
     abbrev c : Course
     c = a.courses (32 * u.queue)
 
@@ -281,7 +279,8 @@ module _ (sides : Sides) (fixed : Fixed) (takes : ℕ → ℕ → Bool) (member 
         (subst (λ (j : ℕ). IsComing (queue_in c) r y (tail_in c) (32 * u.dummy) was.setup (put s.parts (32 * u.queue) j (Element new) (32 * u.queue))) tail_is
         (store_keeps_coming (queue_in c) r y (tail_in c) (32 * u.dummy) (32 * u.queue) was.setup old new s.parts stored_here was.coming))
 
-    publishing_then : (more : Mem) → IsPublishing (record w.driver { made = suc w.driver.made }) more u (now (32 * u.queue)) (a.courses (32 * u.queue)) (a.numbers (32 * u.queue))
+    publishing_then : (more : Mem)
+        → IsPublishing (record w.driver { made = suc w.driver.made }) more u (now (32 * u.queue)) (a.courses (32 * u.queue)) (a.numbers (32 * u.queue))
     publishing_then more =
         subst (λ (o : Option Command). IsPublishingBy (record d { made = suc d.made }) more u (now (32 * u.queue)) c has_numbers o) (sym command)
         (record {
@@ -293,27 +292,28 @@ module _ (sides : Sides) (fixed : Fixed) (takes : ℕ → ℕ → Bool) (member 
   -- ---- no microframe is missed
 
   first_unmissed : (t : Qtd) → words ≡ qtd_words t → IsQtdInRange t → t.token.missed ≡ false
-  first_unmissed = (subst (PublishesNoneBy w.driver.made) command world.unmissed.first) made
+  first_unmissed = (subst (PublishesNoneBy w.driver.made) command q.unmissed.first) made
 
-  unmissed_then : NoneMissed now
-  unmissed_then = writing_misses_none s.parts n (32 * b) (Element new) (partly_unmissed p.qtd d.made (λ whole. first_unmissed p.qtd p.are p.range)) world.unmissed.structures
+  unmissed_then : NoneMissed (have_queues a.courses) now
+  unmissed_then = writing_misses_none (have_queues a.courses) s.parts n (32 * b) (Element new) (λ on. partly_unmissed p.qtd d.made (λ whole. first_unmissed p.qtd p.are p.range)) q.unmissed.structures
 
   -- ---- before the last store
 
   stand_low : w.driver.made < 8 → CoursesStand control_of member a.courses now s.hand (wired fixed w)
   stand_low low = store_spares control_of member a.courses s.parts s.hand (wired fixed w) n (32 * b) old new p.stored no_requests (λ on at. partly_idle p.qtd d.made low) q.stand
 
-  pub low_asking : (more : Mem) → w.driver.made < 8 → AsksIn sides member now s.hand a v asks (record w.driver { made = suc w.driver.made }) more (wired fixed w)
+  pub low_asking : (more : Mem) → w.driver.made < 8
+      → AsksIn sides member now s.hand a v asks (record w.driver { made = suc w.driver.made }) more (wired fixed w)
   low_asking more low =
       goes_on sides member s.parts now s.hand a v asks d m more (wired fixed w) d.book (suc d.made) q
-      (record { structures = unmissed_then; in_hand = world.unmissed.in_hand; first = subst (PublishesNoneBy (suc d.made)) (sym command) (λ some. first_unmissed) }) (stand_low low) (λ i u is next. publishing_then i u is next more) read_then
+      (record { structures = unmissed_then; in_hand = q.unmissed.in_hand; first = subst (PublishesNoneBy (suc d.made)) (sym command) (λ some. first_unmissed) }) (stand_low low) (λ i u is next. publishing_then i u is next more) read_then
 
   -- ---- the last store
 
   abbrev finished : DriverContent
   finished = record w.driver { command = None; made = 0 }
 
-  met_done : (i : ℕ) (u : Endpoint) → IsMetControl finished i u → IsMetControl w.driver i u
+  met_done : (i : ℕ) (u : Endpoint) → IsMetControl sides finished i u → IsMetControl sides w.driver i u
   met_done i u is = record {
     is = record { here = is.is.here; control = is.is.control };
     met = record { there = record { linked = λ opens. no_open b u.queue words (sym command ∙ opens); kept = is.met.there.kept }; near = is.met.near };
@@ -324,13 +324,15 @@ module _ (sides : Sides) (fixed : Fixed) (takes : ℕ → ℕ → Bool) (member 
       ap (λ (c : Option Command). is_publishing c (slice_get d.transfers (length d.transfers - 1)) i) command
       ∙ ap (λ (o : Option Transfer). is_publishing (Some (unfinished.Publish b words)) o i) last_is ∙ other_number p.transfer.endpoint i (λ same. differs (sym same))
 
-  tail_done : (i : ℕ) (u : Endpoint) → i ≢ p.transfer.endpoint → tail_block w.driver.command (slice_get w.driver.transfers (length w.driver.transfers - 1)) i u.dummy ≡ u.dummy
+  tail_done : (i : ℕ) (u : Endpoint) → i ≢ p.transfer.endpoint
+      → tail_block w.driver.command (slice_get w.driver.transfers (length w.driver.transfers - 1)) i u.dummy ≡ u.dummy
   tail_done i u differs =
       ap (λ (c : Option Command). tail_block c (slice_get d.transfers (length d.transfers - 1)) i u.dummy) command
       ∙ ap (λ (o : Option Transfer). tail_block (Some (unfinished.Publish b words)) o i u.dummy) last_is
       ∙ ap (λ (t : Bool). if t then b else u.dummy) (other_number p.transfer.endpoint i (λ same. differs (sym same)))
 
-  course_beside : (i : ℕ) (u : Endpoint) (c : Course) (h : Numbers) → i ≢ p.transfer.endpoint → HasCourse sides w.driver i u c h → HasCourse sides finished i u c h
+  course_beside : (i : ℕ) (u : Endpoint) (c : Course) (h : Numbers) → i ≢ p.transfer.endpoint → HasCourse sides w.driver i u c h
+      → HasCourse sides finished i u c h
   course_beside i u c h differs f = record {
     queue = f.queue;
     endpoint = f.endpoint;
@@ -343,7 +345,8 @@ module _ (sides : Sides) (fixed : Fixed) (takes : ℕ → ℕ → Bool) (member 
     owed = f.owed;
   }
 
-  telling_done : (i : ℕ) (u : Endpoint) (h : Numbers) → HasTelling w.driver asks i u sides.whole v h → HasTelling finished asks i u sides.whole v h
+  telling_done : (i : ℕ) (u : Endpoint) (h : Numbers) → HasTelling w.driver asks i u sides.whole v h
+      → HasTelling finished asks i u sides.whole v h
   telling_done i u h f = record {
     reported = f.reported;
     untold = f.untold;
@@ -354,14 +357,17 @@ module _ (sides : Sides) (fixed : Fixed) (takes : ℕ → ℕ → Bool) (member 
   }
 
   -- with these queues
-  finishes : (later : Asking) (more : Mem) → CoursesStand control_of member later.courses now s.hand (wired fixed w) → AreRecords w.driver asks later.courses later.numbers (has_left w.driver) v
-      → ((i : ℕ) (u : Endpoint) → IsMetControl w.driver i u → HasCourse sides finished i u (later.courses (32 * u.queue)) (later.numbers (32 * u.queue)))
+  finishes : (later : Asking) (more : Mem) → ((j : ℕ) → have_queues later.courses j ≡ true → have_queues a.courses j ≡ true)
+      → CoursesStand control_of member later.courses now s.hand (wired fixed w)
+      → AreRecords w.driver asks later.courses later.numbers (has_left sides w.driver) v
+      → ((i : ℕ) (u : Endpoint) → IsMetControl sides w.driver i u → HasCourse sides finished i u (later.courses (32 * u.queue)) (later.numbers (32 * u.queue)))
       → ((h : ℕ) → later.numbers h ≡ a.numbers h) → AsksIn sides member now s.hand later v asks finished more (wired fixed w)
-  finishes later more stand records each same = record {
+  finishes later more had stand records each same = record {
     stand = stand;
-    records = accepted_keeps_records d finished asks later.courses later.numbers (has_left d) v (same_requests d d.book 0 None) refl
+    records = accepted_keeps_records d finished asks later.courses later.numbers (has_left sides d) v (same_requests d d.book 0 None) refl
         records;
     each = λ i u is. each i u (met_done i u is);
+    asked = λ j u on there. q.asked j u (had j on) (subst (λ (h : Numbers). slice_get d.endpoints h.endpoint ≡ Some u) (same j) there);
     publishing = λ i u is next. absurd (false≢true next);
     read = λ i t u y is going next there.
         subst (λ (h : Numbers). IsReadTo s.hand now (32 * u.queue) (note_at d.notes) y (h.requests.requests 0)) (sym (same (32 * u.queue))) (read_then i t u y (met_done i u is) going next there);
@@ -372,24 +378,28 @@ module _ (sides : Sides) (fixed : Fixed) (takes : ℕ → ℕ → Bool) (member 
         record { device = f.device; is = f.is; acted = f.acted };
     unopened = λ addr num c least none first. q.unopened addr num c least (λ i u here one two. absurd (false≢true (none i u here one two))) first;
     untold = λ name none. q.untold name (λ i u here same. absurd (false≢true (none i u here same)));
-    unmissed = record { structures = unmissed_then; in_hand = world.unmissed.in_hand; first = tt };
+    unmissed = record {
+      structures = narrow_unmissed (have_queues a.courses) (have_queues later.courses) now had unmissed_then;
+      in_hand = narrow_misses (have_queues a.courses) (have_queues later.courses) s.hand had q.unmissed.in_hand;
+      first = tt;
+    };
   }
 
   -- of an endpoint that is no control endpoint
-  have_none : is_control p.endpoint.desc.kind ≡ false → have_queues a.courses n ≡ true → ⊥
+  have_none : sides.asks p.endpoint.desc ≡ false → have_queues a.courses n ≡ true → ⊥
   have_none off on =
       let end = (q.records.each n on).numbered.own.endpoint in
       let i = (a.numbers n).endpoint in
       ⊎_elim {C = ⊥}
-      (λ (same : i ≡ e). false≢true (sym off ∙ sym (ap (λ (u : Endpoint). is_control u.desc.kind) (same_end i end.own end.here same)) ∙ ap is_control end.control))
+      (λ (same : i ≡ e). false≢true (sym off ∙ sym (ap (λ (u : Endpoint). sides.asks u.desc) (same_end i end.own end.here same)) ∙ q.asked n end.own on end.here))
       (λ (differs : i ≢ e). queue_apart i end.own end.here end.held differs (sym end.queue)) (cases_eq i e)
 
-  other_asking : (more : Mem) → is_control p.endpoint.desc.kind ≡ false → AsksIn sides member now s.hand a v asks finished more (wired fixed w)
+  other_asking : (more : Mem) → sides.asks p.endpoint.desc ≡ false → AsksIn sides member now s.hand a v asks finished more (wired fixed w)
   other_asking more off =
-      finishes a more (store_spares control_of member a.courses s.parts s.hand (wired fixed w) n (32 * b) old new p.stored no_requests (λ on at. absurd (have_none off on)) q.stand) q.records
+      finishes a more (λ j has. has) (store_spares control_of member a.courses s.parts s.hand (wired fixed w) n (32 * b) old new p.stored no_requests (λ on at. absurd (have_none off on)) q.stand) q.records
       (λ i u is.
       course_beside i u (a.courses (32 * u.queue)) (a.numbers (32 * u.queue))
-      (λ same. false≢true (sym off ∙ sym (ap (λ (j : Endpoint). is_control j.desc.kind) (same_end i u is.is.here same)) ∙ is.is.control)) (q.each i u is))
+      (λ same. false≢true (sym off ∙ sym (ap (λ (j : Endpoint). sides.asks j.desc) (same_end i u is.is.here same)) ∙ is.is.control)) (q.each i u is))
       (λ h. refl)
 
   -- ---- it is a request
@@ -413,16 +423,20 @@ module _ (sides : Sides) (fixed : Fixed) (takes : ℕ → ℕ → Bool) (member 
   places_of u = (a.numbers n).requests.places u.count
 
   -- where the queue head isn't halted it is owed no stores
-  none_owed : (h : Qh) (i : ℕ) (g : Mend) → s.parts n n ≡ Some (QueueHead h) → h.token.halted ≡ false → slice_get w.driver.mends i ≡ Some g → g.queue ≡ p.endpoint.queue → ⊥
+  none_owed : (h : Qh) (i : ℕ) (g : Mend) → s.parts n n ≡ Some (QueueHead h) → h.token.halted ≡ false → slice_get w.driver.mends i ≡ Some g
+      → g.queue ≡ p.endpoint.queue → ⊥
   none_owed h i g head goes_on there queue =
-      let owes = k.feeding.controls.mends in
+      let owes = k.controls.mends in
       let stopped : IsStopped s.parts n = subst (λ (j : ℕ). IsStopped s.parts (32 * j)) queue
       (owed_halted s.parts s.out owes.queues i g owes.are.wait (sym (ap (λ (ms : List Mend). slice_get ms i) owes.are.mends) ∙ there)) in
       false≢true (sym goes_on ∙ sym (ap (λ (j : Qh). j.token.halted) (found_queue (s.parts n n) stopped.queue h stopped.head head)) ∙ stopped.halted)
 
-  stored_by : (c : Course) → a.courses n ≡ c → IsCourse control_of s.parts s.hand (wired fixed w) n c → has_queue c ≡ true → tail_in c ≡ 32 * b
-      → IsComing (queue_in c) (next_of (queue_in c)) (places_of (queue_in c)) (tail_in c) (32 * p.endpoint.dummy) p.qtd (s.parts n) → IsRecord w.driver asks n c (a.numbers n) v
-      → (queue_in c).count < (a.numbers n).requests.count → ((i : ℕ) (g : Mend) → slice_get w.driver.mends i ≡ Some g → g.queue ≡ p.endpoint.queue → is_asking c ≡ false) → IsStored
+  stored_by : (c : Course) → a.courses n ≡ c → IsCourse control_of s.parts s.hand (wired fixed w) n c → has_queue c ≡ true
+      → tail_in c ≡ 32 * b
+      → IsComing (queue_in c) (next_of (queue_in c)) (places_of (queue_in c)) (tail_in c) (32 * p.endpoint.dummy) p.qtd (s.parts n)
+      → IsRecord w.driver asks n c (a.numbers n) v
+      → (queue_in c).count < (a.numbers n).requests.count
+      → ((i : ℕ) (g : Mend) → slice_get w.driver.mends i ≡ Some g → g.queue ≡ p.endpoint.queue → is_asking c ≡ false) → IsStored
   stored_by NoQueue is stands on tail coming rec few owed = absurd (false≢true on)
   stored_by (Asks u t l) is stands on tail coming rec few owed =
       let dummy = 32 * p.endpoint.dummy in
@@ -467,8 +481,8 @@ module _ (sides : Sides) (fixed : Fixed) (takes : ℕ → ℕ → Bool) (member 
       })
       (cases_Bool h.token.halted)
 
-  module _ (control : is_control p.endpoint.desc.kind ≡ true) where
-    its_is : IsMetControl w.driver p.transfer.endpoint p.endpoint
+  module _ (control : sides.asks p.endpoint.desc ≡ true) where
+    its_is : IsMetControl sides w.driver p.transfer.endpoint p.endpoint
     its_is = its_control sides member s.parts s.hand a v asks d m (wired fixed w) q has p.number b words p.transfer p.endpoint only command p.newest p.there p.here p.going control
 
     next : is_next_of w.driver p.transfer.endpoint ≡ true
@@ -504,7 +518,8 @@ module _ (sides : Sides) (fixed : Fixed) (takes : ℕ → ℕ → Bool) (member 
       owed = stored_now.owed;
     }
 
-    each_course : (i : ℕ) (u : Endpoint) → IsMetControl w.driver i u → HasCourse sides finished i u (later.courses (32 * u.queue)) (later.numbers (32 * u.queue))
+    each_course : (i : ℕ) (u : Endpoint) → IsMetControl sides w.driver i u
+        → HasCourse sides finished i u (later.courses (32 * u.queue)) (later.numbers (32 * u.queue))
     each_course i u is =
         changed_each a.courses a.numbers n stored_now.course (a.numbers n) (λ (j : ℕ) (c : Course) (h : Numbers). HasCourse sides finished i u c h) (32 * u.queue)
         (λ at.
@@ -517,26 +532,21 @@ module _ (sides : Sides) (fixed : Fixed) (takes : ℕ → ℕ → Bool) (member 
 
     request_asking : (more : Mem) → w.driver.made ≡ 8 → AsksIn sides member now s.hand later v asks finished more (wired fixed w)
     request_asking more eighth =
-        finishes later more
+        finishes later more (has_with a.courses n stored_now.course its.queue)
         (subst (λ (j : ℕ). CoursesStand control_of member later.courses (put s.parts n (32 * b) (Element (partly p.qtd j))) s.hand (wired fixed w)) (sym eighth) stored_now.stand)
-        (course_is_recorded d asks a.courses a.numbers (has_left d) v n stored_now.course (a.numbers n) stored_now.recorded q.records) each_course same_numbers
+        (course_is_recorded d asks a.courses a.numbers (has_left sides d) v n stored_now.course (a.numbers n) stored_now.recorded q.records) each_course same_numbers
 
   -- ---- the whole
 
-  record StaysAsking (c : DriverContent) : Type 0 where
-    asking : Asking
-    is : AsksIn sides member now s.hand asking v asks c (driver_next w).memory (wired fixed w)
+  last_asks : (more : Mem) → w.driver.made ≡ 8 → HasAsks sides member now s.hand v asks finished more (wired fixed w)
+  last_asks more eighth =
+      ⊎_elim {C = HasAsks sides member now s.hand v asks finished more (wired fixed w)} (λ (on : sides.asks p.endpoint.desc ≡ true). record { asking = later on; world = request_asking on more eighth })
+      (λ (off : sides.asks p.endpoint.desc ≡ false). record { asking = a; world = other_asking more off }) (cases_Bool (sides.asks p.endpoint.desc))
 
-  stays : StaysAsking (driver_next w).driver
-  stays =
-      by_store (driver_parts w) member x.streams x.endpoint s.parts s.order s.out b words st StaysAsking (λ low. record { asking = a; is = low_asking (driver_next w).memory low })
-      (λ eighth.
-      ⊎_elim {C = StaysAsking finished} (λ (on : is_control p.endpoint.desc.kind ≡ true). record { asking = later on; is = request_asking on (driver_next w).memory eighth })
-      (λ (off : is_control p.endpoint.desc.kind ≡ false). record { asking = a; is = other_asking (driver_next w).memory off }) (cases_Bool (is_control p.endpoint.desc.kind)))
+  -- the driver's content is this one after it, or that
+  abbrev pub IsStoredTo : DriverContent → Type 1
+  IsStoredTo c = (P : DriverContent → Type 0) → (w.driver.made < 8 → P (record w.driver { made = suc w.driver.made })) → (w.driver.made ≡ 8 → P (record w.driver { command = None; made = 0 })) → P c
 
-  pub stored_then : Asking
-  stored_then = stays.asking
-
-  pub asking_stored : IsAskingWorld sides fixed member (after_store fixed member x s w b words command made k.feeding) stored_then v asks (driver_next w)
-  unfolding stored_then
-  asking_stored = outside sides fixed member (after_store fixed member x s w b words command made k.feeding) stays.asking v asks (driver_next w) stays.is
+  pub stored_asks : (more : Mem) (c : DriverContent) → IsStoredTo c
+      → HasAsks sides member (parts_then p) s.hand v asks c more (wired fixed w)
+  stored_asks more c by = by (λ (f : DriverContent). HasAsks sides member now s.hand v asks f more (wired fixed w)) (λ low. record { asking = a; world = low_asking more low }) (λ eighth. last_asks more eighth)

@@ -1,8 +1,7 @@
 -- Requests stand as they must where a get, a put or a request is accepted, and where an endpoint is cancelled.
-use Rattle.std.proofs.Common.{◌≡◌, ℕ, ◌<◌, Bool, Result, Ok, sym, subst}
+use Rattle.std.proofs.Common.{◌≡◌, ℕ, ◌<◌, Bool, Result, Ok, sym, subst, true, false, List, ◌++◌, refl}
 use Rattle.law_common.proofs.Lists.{all_joined}
 use Rattle.usb_base.specs.declared.commands.Cmd.{Cmd}
-use Rattle.usb_base.specs.declared.commands.Cmd.TheVariants as commands
 use Rattle.usb_base.specs.declared.endpoints.EpName.{EpName}
 use Rattle.usb_base.specs.declared.reports.OfferError.{OfferError}
 use Rattle.bus_wire.specs.Bus.{Fixed}
@@ -18,73 +17,83 @@ use Rattle.law_world.specs.steps.Streaming.{Streams, Standing}
 use Rattle.claims_world.specs.Requests.{Windows, asks_then, wired}
 use Rattle.law_world.specs.streams.Whole.{IsWhole}
 use Rattle.law_world.proofs.lemmas.streams.Commanding.{whole_commanded}
-use Rattle.law_reports.specs.requests.Asking.{Sides, Asking, IsAskingWorld}
+use Rattle.law_reports.specs.requests.Asking.{Sides, Asking, IsAskingWorld, AsksIn}
 use Rattle.law_reports.specs.requests.Commanding.{IsTransferCommand, TransferKeepsAsking, CancelKeepsAsking}
 use Rattle.law_reports.proofs.lemmas.requests.Cancelling.{cancelled_asks}
-use Rattle.law_reports.proofs.lemmas.requests.Commanding.{moved_asks, later, requested_asks}
+use Rattle.law_reports.proofs.lemmas.requests.Commanding.{moved_asks, later, requested_asks, other_asks}
 use Rattle.law_reports.proofs.lemmas.requests.Has.{asking_of}
-use Rattle.law_reports.proofs.lemmas.requests.Inside.{AsksIn, inside, outside}
 use Rattle.law_reports.proofs.lemmas.requests.Requested.{TakesRequest, request_taken}
+use Rattle.std.specs.List.{AllByRecursion}
+use Rattle.claims_driver.specs.LentRuns.{AreLent}
+use Rattle.law_request.specs.Windows.{IsRequest}
+use Rattle.law_reports.specs.requests.Footing.{IsFooting}
+use Rattle.law_reports.proofs.lemmas.requests.Footing.{footing}
+use Rattle.usb_base.specs.declared.commands.Cmd.TheVariants as commands
 
-record AsksThen (g : Sides) (fixed : Fixed) (member : ℕ → Bool) (s : Standing) (v : Windows) (now : ℕ → Request) (w : World) : Type 0 where
-  asking : Asking
-  world : IsAskingWorld g fixed member s asking v now w
+pub record AsksThen (g : Sides) (fixed : Fixed) (member : ℕ → Bool) (s : Standing) (v : Windows) (now : ℕ → Request) (w : World) : Type 0 where
+  pub asking : Asking
+  pub world : IsAskingWorld g fixed member s asking v now w
 
-module _ (g : Sides) (fixed : Fixed) (takes : ℕ → ℕ → Bool) (member : ℕ → Bool) (x : Streams) (s : Standing) (a : Asking) (v : Windows) (asks : ℕ → Request) (w : World) (line : ℕ) (o : Offered) (k : IsWhole fixed takes member x s w)
-    (world : IsAskingWorld g fixed member s a v asks w) where
-  abbrev q : AsksIn g member s.parts s.hand a v asks w.driver w.memory (wired fixed w)
-  q = inside g fixed member s a v asks w world
-
+module _ (g : Sides) (fixed : Fixed) (member : ℕ → Bool) (x : Streams) (s : Standing) (a : Asking) (v : Windows) (asks : ℕ → Request)
+    (w : World) (line : ℕ) (o : Offered) (k : IsFooting member x s w)
+    (lent : AreLent w.driver) (q : IsAskingWorld g fixed member s a v asks w) where
   moves : (name : EpName) → IsAsked w.driver w.memory o → AsksThen g fixed member s v asks (commanded_by w line name (Ok o))
   moves name asked = record {
     asking = a;
-    world = outside g fixed member s a v asks (commanded_by w line name (Ok o))
-        (moved_asks g member s.parts s.hand a v asks w.driver w.memory (wired fixed w) q k.feeding.working.place.sound.owners k.feeding.working.place.sound.stands k.feeding.turns.asynchronous k.feeding.turns.turns.places o name asked);
+    world = moved_asks g member s.parts s.hand a v asks w.driver w.memory (wired fixed w) q k.owners k.stands k.turns.asynchronous k.turns.turns.places o name asked;
   }
 
-  by_command : (cmd : Cmd) → IsTransferCommand cmd → IsByteCommand cmd → offered w.driver w.memory cmd ≡ Ok o → AsksThen g fixed member s v (asks_then w.driver cmd asks) (commanded_by w line (name_in cmd) (Ok o))
-  by_command (commands.Get name len by) fits bytes is = moves name (asynchronous_command_is_accepted w.driver w.memory (commands.Get name len by) o k.feeding.turns.asynchronous tt is)
-  by_command (commands.Put name data_bytes by) fits bytes is = moves name (asynchronous_command_is_accepted w.driver w.memory (commands.Put name data_bytes by) o k.feeding.turns.asynchronous tt is)
+  -- a request, of one of these or of another one
+  requests : (name : EpName) (setup more : List ℕ) → IsRequest (record { setup = setup; bytes = more })
+      → AllByRecursion (λ (b : ℕ). b < 256) (setup ++ more) → (t : TakesRequest w.driver w.memory o setup more)
+      → (b : Bool) → g.asks t.transfers.endpoint.desc ≡ b
+      → AsksThen g fixed member s v (asks_then w.driver (commands.Control name setup more) asks) (commanded_by w line name (Ok o))
+  requests name setup more fits all t true on = record {
+    asking = record {
+      courses = a.courses;
+      numbers = later g member s.parts s.hand a v asks w.driver w.memory (wired fixed w) q k.owners k.stands k.turns.asynchronous k.turns.turns.places o name setup more lent k.tells.shape fits all t on;
+    };
+    world = requested_asks g member s.parts s.hand a v asks w.driver w.memory (wired fixed w) q k.owners k.stands k.turns.asynchronous k.turns.turns.places o name setup more lent k.tells.shape fits all t on;
+  }
+  requests name setup more fits all t false off = record {
+    asking = a;
+    world = other_asks g member s.parts s.hand a v asks w.driver w.memory (wired fixed w) q k.owners k.stands k.turns.asynchronous k.turns.turns.places o (commands.Control name setup more) t.transfers off;
+  }
+
+  by_command : (cmd : Cmd) → IsTransferCommand cmd → IsByteCommand cmd → offered w.driver w.memory cmd ≡ Ok o
+      → AsksThen g fixed member s v (asks_then w.driver cmd asks) (commanded_by w line (name_in cmd) (Ok o))
+  by_command (commands.Get name len by) fits bytes is = moves name (asynchronous_command_is_accepted w.driver w.memory (commands.Get name len by) o k.turns.asynchronous tt is)
+  by_command (commands.Put name data_bytes by) fits bytes is = moves name (asynchronous_command_is_accepted w.driver w.memory (commands.Put name data_bytes by) o k.turns.asynchronous tt is)
   by_command (commands.Control name setup more) fits bytes is =
-      let place = k.feeding.working.place in
-      let only = k.feeding.turns.asynchronous in
-      let places = k.feeding.turns.turns.places in
-      let t : TakesRequest w.driver w.memory o setup more = request_taken w.driver w.memory name setup more o only is in
-      let all = all_joined (λ (b : ℕ). b < 256) setup more bytes.0 bytes.1 in
-      let shape = k.feeding.working.streaming.controlled.ring.tells.shape in
-      record {
-        asking = record {
-          courses = a.courses;
-          numbers = later g member s.parts s.hand a v asks w.driver w.memory (wired fixed w) q place.sound.owners place.sound.stands only places o name setup more place.lent shape fits all t;
-        };
-        world = outside g fixed member s _ v (asks_then w.driver (commands.Control name setup more) asks) (commanded_by w line name (Ok o))
-            (requested_asks g member s.parts s.hand a v asks w.driver w.memory (wired fixed w) q place.sound.owners place.sound.stands only places o name setup more place.lent shape fits all t);
-      }
+      let t : TakesRequest w.driver w.memory o setup more = request_taken w.driver w.memory name setup more o k.turns.asynchronous is in
+      requests name setup more fits (all_joined (λ (b : ℕ). b < 256) setup more bytes.0 bytes.1) t (g.asks t.transfers.endpoint.desc) refl
   by_command _ fits bytes is = absurd fits
 
+  pub asks_offered : (cmd : Cmd) → IsTransferCommand cmd → IsByteCommand cmd → offered w.driver w.memory cmd ≡ Ok o
+      → AsksThen g fixed member s v (asks_then w.driver cmd asks) (commanded w line cmd)
+  asks_offered cmd fits bytes is =
+      subst (λ (p : Result Offered OfferError). AsksThen g fixed member s v (asks_then w.driver cmd asks) (commanded_by w line (name_in cmd) p)) (sym is) (by_command cmd fits bytes is)
+
+module _ (fixed : Fixed) (takes : ℕ → ℕ → Bool) (member : ℕ → Bool) (x : Streams) (s : Standing) (w : World) (line : ℕ)
+    (k : IsWhole fixed takes member x s w) where
   whole_then : (cmd : Cmd) → IsTransferCommand cmd → IsOffered w.driver.room cmd → IsWhole fixed takes member x s (commanded w line cmd)
   whole_then (commands.Get name len by) fits room = whole_commanded fixed takes member x s w line (commands.Get name len by) tt (λ p is. tt) tt tt room k
   whole_then (commands.Put name data_bytes by) fits room = whole_commanded fixed takes member x s w line (commands.Put name data_bytes by) tt (λ p is. tt) tt tt room k
   whole_then (commands.Control name setup more) fits room = whole_commanded fixed takes member x s w line (commands.Control name setup more) tt (λ p is. tt) tt tt room k
   whole_then _ fits room = absurd fits
 
-  asks_offered : (cmd : Cmd) → IsTransferCommand cmd → IsByteCommand cmd → offered w.driver w.memory cmd ≡ Ok o → AsksThen g fixed member s v (asks_then w.driver cmd asks) (commanded w line cmd)
-  asks_offered cmd fits bytes is =
-      subst (λ (p : Result Offered OfferError). AsksThen g fixed member s v (asks_then w.driver cmd asks) (commanded_by w line (name_in cmd) p)) (sym is) (by_command cmd fits bytes is)
-
 pub transfer_keeps_asking : TransferKeepsAsking
 transfer_keeps_asking g fixed takes member x s a v asks w line cmd o fits bytes room is k head world =
-    let then_asks = asks_offered g fixed takes member x s a v asks w line o k world cmd fits bytes is in
-    asking_of g fixed takes member x s then_asks.asking v (asks_then w.driver cmd asks) (commanded w line cmd) (whole_then g fixed takes member x s a v asks w line o k world cmd fits room) then_asks.world head
+    let then_asks = asks_offered g fixed member x s a v asks w line o (footing fixed takes member x s w k head) k.feeding.working.place.lent world cmd fits bytes is in
+    asking_of g fixed takes member x s then_asks.asking v (asks_then w.driver cmd asks) (commanded w line cmd) (whole_then fixed takes member x s w line k cmd fits room) then_asks.world head
 
 pub cancel_keeps_asking : CancelKeepsAsking
 cancel_keeps_asking g fixed takes member x s a v asks w line name o room is k head world =
     let why : Cancels w.driver w.memory o =
     asynchronous_command_is_accepted w.driver w.memory (commands.Cancel name) o k.feeding.turns.asynchronous tt is in
-    let q : AsksIn g member s.parts s.hand a v asks w.driver w.memory (wired fixed w) = inside g fixed member s a v asks w world in
     let then_asks : AsksIn g member s.parts s.hand a v asks o.driver o.memory (wired fixed w) =
     subst (λ (f : Offered). AsksIn g member s.parts s.hand a v asks f.driver f.memory (wired fixed w)) (sym why.is)
-    (cancelled_asks g member s.parts s.hand a v asks w.driver w.memory (wired fixed w) q k.feeding.turns.asynchronous why.number why.endpoint why.idle why.here why.fresh) in
+    (cancelled_asks g member s.parts s.hand a v asks w.driver w.memory (wired fixed w) world k.feeding.turns.asynchronous why.number why.endpoint why.idle why.here why.fresh) in
     let given : IsAskingWorld g fixed member s a v asks (commanded w line (commands.Cancel name)) =
-    subst (λ (p : Result Offered OfferError). IsAskingWorld g fixed member s a v asks (commanded_by w line name p)) (sym is) (outside g fixed member s a v asks (commanded_by w line name (Ok o)) then_asks) in
+    subst (λ (p : Result Offered OfferError). IsAskingWorld g fixed member s a v asks (commanded_by w line name p)) (sym is) then_asks in
     asking_of g fixed takes member x s a v asks (commanded w line (commands.Cancel name)) (whole_commanded fixed takes member x s w line (commands.Cancel name) tt (λ p offer. tt) tt tt room k) given head

@@ -5,7 +5,6 @@ use Rattle.std.proofs.lemmas.Option.{same_Some}
 use Rattle.law_reports.proofs.Common.{regone}
 use Rattle.bus_wire.specs.Bus.{Fixed}
 use Rattle.drv_table.specs.declared.content.Command.{Command}
-use Rattle.drv_table.specs.declared.content.Command.TheVariants as unfinished
 use Rattle.drv_table.specs.declared.content.Endpoint.{Endpoint}
 use Rattle.drv_table.specs.declared.content.Transfer.{Transfer}
 use Rattle.drv_table.specs.declared.rows.DriverRow.{DriverRow}
@@ -13,7 +12,7 @@ use Rattle.drv_table.specs.DriverContent.{DriverContent}
 use Rattle.drv_table.specs.Harvests.{note_at}
 use Rattle.drv_table.specs.Parts.{Parts}
 use Rattle.drv_table.specs.Rows.{driver_row}
-use Rattle.drv_table.specs.Words.{is_control, to_queue_head}
+use Rattle.drv_table.specs.Words.{to_queue_head}
 use Rattle.law_driver.specs.endpoint_lives.Lives.{is_one_of, told_end, may_meet}
 use Rattle.law_driver.proofs.lemmas.endpoint_lives.Lives.{one_of_end, one_of_others}
 use Rattle.claims_report.specs.Requests.{Request}
@@ -22,27 +21,29 @@ use Rattle.law_driver_ring.proofs.lemmas.told_harvests.Keeping.{spared_is_done}
 use Rattle.law_world.specs.steps.unlinked_streams.Unlinks.{IsAtUnlink, driver_then, IsUnlinked}
 use Rattle.law_world.proofs.lemmas.steps.lemmas.unlinked_streams.Passing.{unlink_row}
 use Rattle.law_world.proofs.lemmas.steps.lemmas.unlinked_streams.Streams.{unlink_spares_heads, unlink_spares_elements, unlink_spares_hand}
-use Rattle.bus_world.specs.World.{World, driver_parts, driver_next, with_parts}
-use Rattle.law_world.specs.steps.Streaming.{Streams, Standing}
+use Rattle.bus_world.specs.World.{World, driver_parts, driver_next}
+use Rattle.law_world.specs.steps.Streaming.{Standing}
 use Rattle.claims_world.specs.Requests.{wired, Windows, opens}
 use Rattle.law_reports.specs.requests.driver_requests.Rows.{given_by, KeepsEndpoint}
-use Rattle.law_reports.specs.requests.Courses.{CoursesStand}
+use Rattle.law_reports.specs.requests.Courses.{CoursesStand, have_queues}
 use Rattle.law_reports.proofs.lemmas.requests.Writing.{link_spares}
 use Rattle.law_reports.specs.requests.Records.{AreRecords}
 use Rattle.law_reports.proofs.lemmas.requests.Rows.{row_keeps_records}
 use Rattle.law_world.specs.streams.Leaving.{unlinked}
 use Rattle.law_world.specs.streams.Tails.{IsUnderWay}
 use Rattle.law_world.proofs.lemmas.streams.Unlinking.{unlink_finds}
-use Rattle.law_world.specs.streams.Whole.{IsWhole}
 use Rattle.law_world.proofs.lemmas.streams.LeavingUnlinked.{unlink_whole}
-use Rattle.law_reports.specs.requests.Asking.{Sides, Asking, left_with, has_left, IsMetControl, IsReadTo, IsAskingWorld, HasAskingWorld}
-use Rattle.law_reports.specs.requests.Rows.{UnlinkKeepsAsking, IsHeadOfNone}
+use Rattle.law_reports.specs.requests.Asking.{Sides, Asking, left_with, has_left, IsMetControl, IsReadTo, IsAskingWorld, AsksIn}
+use Rattle.law_reports.specs.requests.Rows.{UnlinkKeepsAsking}
 use Rattle.law_reports.proofs.lemmas.requests.Has.{asking_of}
 use Rattle.law_reports.proofs.lemmas.requests.Leaving.{idle_quiet, unlink_quiet, WasEndpoint, IsEndpointStill, RowLeaves, was_met, each_still, world_left}
 use Rattle.law_reports.proofs.lemmas.requests.Missed.{writing_misses_none, linked_unmissed}
 use Rattle.law_structures.specs.lent_structures.Structures.{QueueHead}
+use Rattle.word_mem.specs.Memory.{Mem}
+use Rattle.drv_table.specs.declared.content.Command.TheVariants as unfinished
 
-module _ (g : Sides) (fixed : Fixed) (takes : ℕ → ℕ → Bool) (member : ℕ → Bool) (x : Streams) (s : Standing) (a : Asking) (v : Windows) (asks : ℕ → Request) (w : World) (at : IsAtUnlink w.driver member s.parts) (head : IsHeadOfNone x) (k : IsWhole fixed takes member x s w) (z : IsAskingWorld g fixed member s a v asks w) where
+module _ (g : Sides) (fixed : Fixed) (member : ℕ → Bool) (s : Standing) (a : Asking) (v : Windows) (asks : ℕ → Request) (w : World)
+    (z : IsAskingWorld g fixed member s a v asks w) (at : IsAtUnlink w.driver member s.parts) (more : Mem) where
   abbrev f : ℕ
   f = at.number
 
@@ -90,7 +91,8 @@ module _ (g : Sides) (fixed : Fixed) (takes : ℕ → ℕ → Bool) (member : �
       (λ (differs : e ≢ f). record { now = y; here = others_now e differs ∙ here; desc = refl; queue = refl }) (cases_eq e f)
 
   -- the walk may meet the same queue heads
-  near_same : (e : ℕ) (y t : Endpoint) → slice_get new.endpoints e ≡ Some y → slice_get w.driver.endpoints e ≡ Some t → may_meet new e y ≡ may_meet w.driver e t
+  near_same : (e : ℕ) (y t : Endpoint) → slice_get new.endpoints e ≡ Some y → slice_get w.driver.endpoints e ≡ Some t
+      → may_meet new e y ≡ may_meet w.driver e t
   near_same e y t here there =
       ⊎_elim {C = may_meet new e y ≡ may_meet w.driver e t}
       (λ (same : e ≡ f).
@@ -121,18 +123,18 @@ module _ (g : Sides) (fixed : Fixed) (takes : ℕ → ℕ → Bool) (member : �
 
   -- ---- what is recorded
 
-  left_by : (e : ℕ) (o : Option Endpoint) → slice_get new.endpoints e ≡ o → left_with new e o ≡ true → has_left w.driver e ≡ true
+  left_by : (e : ℕ) (o : Option Endpoint) → slice_get new.endpoints e ≡ o → left_with g new e o ≡ true → has_left g w.driver e ≡ true
   left_by e None is on = absurd (false≢true on)
   left_by e (Some y) is on =
       let t = was_one e y is in
-      ap (left_with w.driver e) t.here
-      ∙ ap (λ (b : Bool). b && not (may_meet w.driver e t.was)) (ap (λ (i : _). is_control i.kind) t.desc) ∙ ap (λ (b : Bool). is_control y.desc.kind && not b) (sym (near_same e y t.was is t.here)) ∙ on
+      ap (left_with g w.driver e) t.here
+      ∙ ap (λ (b : Bool). b && not (may_meet w.driver e t.was)) (ap (λ (i : _). g.asks i) t.desc) ∙ ap (λ (b : Bool). g.asks y.desc && not b) (sym (near_same e y t.was is t.here)) ∙ on
 
-  recorded : AreRecords new asks a.courses a.numbers (has_left new) v
+  recorded : AreRecords new asks a.courses a.numbers (has_left g new) v
   recorded =
-      regone new asks a.courses a.numbers (has_left w.driver) (has_left new) v (λ e on. left_by e (slice_get new.endpoints e) refl on)
-      (subst (λ (c : DriverContent). AreRecords c asks a.courses a.numbers (has_left w.driver) v) row.driver
-      (row_keeps_records (driver_parts w) (driver_row (driver_parts w)) asks a.courses a.numbers (has_left w.driver) v
+      regone new asks a.courses a.numbers (has_left g w.driver) (has_left g new) v (λ e on. left_by e (slice_get new.endpoints e) refl on)
+      (subst (λ (c : DriverContent). AreRecords c asks a.courses a.numbers (has_left g w.driver) v) row.driver
+      (row_keeps_records (driver_parts w) (driver_row (driver_parts w)) asks a.courses a.numbers (has_left g w.driver) v
       (λ j has. subst (λ (r : DriverRow). KeepsEndpoint r (a.numbers j).endpoint) (sym row.row) tt)
       (λ j i has few given. let never : ◌≡◌ {A = Option ℕ} None (Some ((a.numbers j).number i)) = ap given_by (sym row.row) ∙ given in cc) z.records))
 
@@ -141,14 +143,15 @@ module _ (g : Sides) (fixed : Fixed) (takes : ℕ → ℕ → Bool) (member : �
   stand : CoursesStand control_of member a.courses (unlinked s at).parts (unlinked s at).hand (wired fixed w)
   stand = link_spares control_of member a.courses s.parts s.hand (wired fixed w) (32 * at.before) at.queue (to_queue_head at.after) at.head z.stand
 
-  reads : (e t : ℕ) (y : Endpoint) (tr : Transfer) → IsMetControl new e y → told_end y ≡ None → y.next ≡ Some t → slice_get w.driver.transfers t ≡ Some tr
+  reads : (e t : ℕ) (y : Endpoint) (tr : Transfer) → IsMetControl g new e y → told_end y ≡ None → y.next ≡ Some t
+      → slice_get w.driver.transfers t ≡ Some tr
       → IsReadTo (unlinked s at).hand (unlinked s at).parts (32 * y.queue) (note_at w.driver.notes) tr ((a.numbers (32 * y.queue)).requests.requests 0)
   unfolding was_one leaves
   reads e t y tr m going next there =
       let i = was_one e y m.is.here in
       let r : IsReadTo s.hand s.parts (32 * y.queue) (note_at w.driver.notes) tr ((a.numbers (32 * y.queue)).requests.requests 0) =
       subst (λ (b : ℕ). IsReadTo s.hand s.parts (32 * b) (note_at w.driver.notes) tr ((a.numbers (32 * b)).requests.requests 0)) i.queue
-      (z.read e t i.was tr (was_met w.driver new leaves e y m) (i.ended m.met.there.kept ∙ going) (i.next ∙ next) there) in
+      (z.read e t i.was tr (was_met g w.driver new leaves e y m) (i.ended m.met.there.kept ∙ going) (i.next ∙ next) there) in
       record {
         setup = r.setup;
         data_at = λ has one.
@@ -165,21 +168,19 @@ module _ (g : Sides) (fixed : Fixed) (takes : ℕ → ℕ → Bool) (member : �
   -- ---- the world
 
   abbrev parts_now : Parts
-  parts_now = record { driver = new; registers = (driver_next w).registers; memory = (driver_next w).memory }
+  parts_now = record { driver = new; registers = w.registers; memory = more }
 
-  world : IsAskingWorld g fixed member (unlinked s at) (record { courses = a.courses; numbers = a.numbers }) v asks (driver_next w)
-  world =
-      subst (λ (c : DriverContent). IsAskingWorld g fixed member (unlinked s at) (record { courses = a.courses; numbers = a.numbers }) v asks (with_parts w (record { driver = c; registers = (driver_next w).registers; memory = (driver_next w).memory })))
-      (sym row.driver)
-      (world_left g fixed member s a v asks w parts_now leaves z (λ e y c. record { lines = refl; telling = λ reported waits t. record { numbers = t.numbers; told = t.told; wait = t.wait } }) (λ name u. refl)
-      member (unlinked s at) a.courses
-      (writing_misses_none s.parts (32 * at.before) (32 * at.before) (QueueHead (record at.queue { link = to_queue_head at.after })) (z.unmissed.structures.heads (32 * at.before) at.queue at.head) z.unmissed.structures)
-      (linked_unmissed (32 * at.before) (to_queue_head at.after) s.hand z.unmissed.in_hand) stand recorded (each_still g fixed member s a v asks w parts_now leaves z) reads)
-
-  pub unlinked_world : HasAskingWorld g fixed takes x.stream x.packets v asks (driver_next w)
-  unlinked_world = asking_of g fixed takes member x (unlinked s at) (record { courses = a.courses; numbers = a.numbers }) v asks (driver_next w) (unlink_whole fixed takes member x s w at k) world head
+  pub unlinked_asks : AsksIn g member (unlinked s at).parts (unlinked s at).hand (record { courses = a.courses; numbers = a.numbers }) v asks (driver_then w.driver at.number at.endpoint) more (wired fixed w)
+  unlinked_asks =
+      world_left g fixed member s a v asks w parts_now leaves z (λ e y c. record { lines = refl; telling = λ reported waits t. record { numbers = t.numbers; told = t.told; wait = t.wait } }) (λ name u. refl)
+      member (unlinked s at) a.courses (λ j has. has)
+      (writing_misses_none (have_queues a.courses) s.parts (32 * at.before) (32 * at.before) (QueueHead (record at.queue { link = to_queue_head at.after })) (λ on. z.unmissed.structures.heads (32 * at.before) at.queue on at.head)
+      z.unmissed.structures)
+      (linked_unmissed (have_queues a.courses) (32 * at.before) (to_queue_head at.after) s.hand z.unmissed.in_hand) stand recorded (each_still g fixed member s a v asks w parts_now leaves z) reads
 
 pub unlink_keeps_asking : UnlinkKeepsAsking
 unlink_keeps_asking g fixed takes member x s a v asks w e before link command head k z =
-    unlinked_world g fixed takes member x s a v asks w
-    (unlink_finds fixed member x s w e before link command (subst (λ (c : _). IsUnderWay w.driver w.memory member s.parts c) command k.under_way) k.feeding) head k z
+    let at : IsAtUnlink w.driver member s.parts = unlink_finds fixed member x s w e before link command (subst (λ (c : _). IsUnderWay w.driver w.memory member s.parts c) command k.under_way) k.feeding in
+    asking_of g fixed takes member x (unlinked s at) (record { courses = a.courses; numbers = a.numbers }) v asks (driver_next w) (unlink_whole fixed takes member x s w at k)
+    (subst (λ (c : DriverContent). AsksIn g member (unlinked s at).parts (unlinked s at).hand (record { courses = a.courses; numbers = a.numbers }) v asks c (driver_next w).memory (wired fixed w))
+    (sym (unlink_row (driver_parts w) member s.parts at).driver) (unlinked_asks g fixed member s a v asks w z at (driver_next w).memory)) head

@@ -8,29 +8,30 @@ use Rattle.drv_table.specs.declared.rows.DriverRow.{DriverRow}
 use Rattle.drv_table.specs.declared.rows.DriverRow.TheVariants as rows
 use Rattle.drv_table.specs.declared.rows.Found.TheVariants as founds
 use Rattle.drv_table.specs.DriverContent.{DriverContent}
-use Rattle.drv_table.specs.Rows.{driver_row, after_driver_row}
+use Rattle.drv_table.specs.Rows.{after_driver_row}
 use Rattle.drv_table.specs.Harvesting.{served}
 use Rattle.law_driver.specs.run_owners.Due.{IsHarvestDue}
 use Rattle.claims_report.specs.Requests.{Request}
 use Rattle.bus_world.specs.World.{World, driver_parts, driver_next, with_parts}
-use Rattle.law_world.specs.steps.Streaming.{Streams, Standing}
+use Rattle.law_world.specs.steps.Streaming.{Standing}
 use Rattle.claims_world.specs.Requests.{Windows}
 use Rattle.law_reports.specs.requests.driver_requests.Rows.{KeepsRequests}
 use Rattle.law_reports.specs.requests.Records.{AreRecords}
 use Rattle.law_reports.proofs.lemmas.requests.Rows.{accepted_keeps_records}
-use Rattle.law_world.specs.streams.HarvestFeeds.{HarvestLeaves}
-use Rattle.law_world.specs.streams.Whole.{IsWhole}
 use Rattle.law_world.proofs.lemmas.streams.Leaving.{due, leaves, whole_harvested}
 use Rattle.law_reports.specs.requests.Asking.{Sides, Asking, has_left, IsPublishingBy, IsMetControl, IsAskingWorld}
 use Rattle.law_reports.specs.requests.Waits.{WaitKeepsAsking}
 use Rattle.law_reports.proofs.lemmas.requests.Has.{asking_of}
 use Rattle.law_reports.proofs.lemmas.requests.Missed.{idle_misses}
+use Rattle.law_reports.specs.requests.Courses.{have_queues}
 
-module _ (g : Sides) (fixed : Fixed) (member : ℕ → Bool) (s : Standing) (a : Asking) (v : Windows) (asks : ℕ → Request) (w : World) (q : IsAskingWorld g fixed member s a v asks w) (idle : w.driver.command ≡ None) (e : ℕ) (out : ℕ → List ℕ) (reported : ℕ → List ℕ) where
+module _ (g : Sides) (fixed : Fixed) (member : ℕ → Bool) (s : Standing) (a : Asking) (v : Windows) (asks : ℕ → Request) (w : World)
+    (q : IsAskingWorld g fixed member s a v asks w) (idle : w.driver.command ≡ None) (e : ℕ) (out : ℕ → List ℕ)
+    (reported : ℕ → List ℕ) where
   abbrev f : DriverContent
   f = served w.driver e
 
-  was_met : (i : ℕ) (z : Endpoint) → IsMetControl (served w.driver e) i z → IsMetControl w.driver i z
+  was_met : (i : ℕ) (z : Endpoint) → IsMetControl g (served w.driver e) i z → IsMetControl g w.driver i z
   was_met i z is = record {
     is = record { here = is.is.here; control = is.is.control };
     met = record { there = record { linked = is.met.there.linked; kept = is.met.there.kept }; near = is.met.near };
@@ -43,8 +44,8 @@ module _ (g : Sides) (fixed : Fixed) (member : ℕ → Bool) (s : Standing) (a :
     notes = λ t b y here of held piece. refl;
   }
 
-  records_then : AreRecords (served w.driver e) asks a.courses a.numbers (has_left (served w.driver e)) v
-  records_then = let k = accepted_keeps_records w.driver f asks a.courses a.numbers (has_left w.driver) v keeps refl q.records in record { each = k.each; left = λ i left. k.left i left; none = k.none }
+  records_then : AreRecords (served w.driver e) asks a.courses a.numbers (has_left g (served w.driver e)) v
+  records_then = let k = accepted_keeps_records w.driver f asks a.courses a.numbers (has_left g w.driver) v keeps refl q.records in record { each = k.each; left = λ i left. k.left i left; none = k.none }
 
   pub asking_served : IsAskingWorld g fixed member (record s { out = out; reported = reported }) a v asks (record w { driver = served w.driver e })
   asking_served = record {
@@ -53,6 +54,7 @@ module _ (g : Sides) (fixed : Fixed) (member : ℕ → Bool) (s : Standing) (a :
     each = λ i z is.
         let h = q.each i z (was_met i z is) in
         record { queue = h.queue; endpoint = h.endpoint; number = h.number; tail = h.tail; count = h.count; newest = h.newest; next = h.next; ended = h.ended; owed = h.owed };
+    asked = q.asked;
     publishing = λ i z is on. subst (λ (o : Option Command). IsPublishingBy f w.memory z (s.parts (32 * z.queue)) (a.courses (32 * z.queue)) (a.numbers (32 * z.queue)) o) (sym idle) tt;
     read = λ i t z y is going next here. q.read i t z y (was_met i z is) going next here;
     telling = λ i z is kept.
@@ -71,28 +73,22 @@ module _ (g : Sides) (fixed : Fixed) (member : ℕ → Bool) (s : Standing) (a :
         record { device = h.device; is = h.is; acted = h.acted };
     unopened = q.unopened;
     untold = q.untold;
-    unmissed = idle_misses w.driver f s.parts s.hand idle q.unmissed;
+    unmissed = idle_misses (have_queues a.courses) w.driver f s.parts s.hand idle q.unmissed;
   }
 
-module _ (g : Sides) (fixed : Fixed) (takes : ℕ → ℕ → Bool) (member : ℕ → Bool) (x : Streams) (s : Standing) (a : Asking) (v : Windows) (asks : ℕ → Request) (w : World) (e t : ℕ)
-    (row : driver_row (driver_parts w) ≡ rows.Harvest e t founds.Active) (k : IsWhole fixed takes member x s w) (q : IsAskingWorld g fixed member s a v asks w) where
-  reads : IsHarvestDue (driver_parts w) e t founds.Active
-  reads = due fixed takes member x s w e t founds.Active row k
-
-  pub l : HarvestLeaves fixed member x s (driver_next w)
-  l = leaves fixed takes member x s w e t founds.Active row k
-
-  pub asking_waits : IsAskingWorld g fixed member (record s { out = l.out; reported = l.reported }) a v asks (driver_next w)
-  asking_waits =
-      let s_then : Standing = record s { out = l.out; reported = l.reported } in
+module _ (g : Sides) (fixed : Fixed) (member : ℕ → Bool) (s : Standing) (a : Asking) (v : Windows) (asks : ℕ → Request) (w : World)
+    (e t : ℕ) (reads : IsHarvestDue (driver_parts w) e t founds.Active)
+    (q : IsAskingWorld g fixed member s a v asks w) where
+  pub waits_asks : IsAskingWorld g fixed member s a v asks (record w { driver = (after_driver_row (rows.Harvest e t founds.Active) (driver_parts w)).driver })
+  waits_asks =
       let new_is : (after_driver_row (rows.Harvest e t founds.Active) (driver_parts w)).driver ≡ served w.driver e =
       after_is (driver_parts w) e t founds.Active reads ∙ ap (λ (b : Bool). if b then served w.driver e else w.driver) reads.waits in
-      subst (λ (r : DriverRow). IsAskingWorld g fixed member s_then a v asks (with_parts w (after_driver_row r (driver_parts w)))) (sym row)
-      (subst (λ (d : DriverContent). IsAskingWorld g fixed member s_then a v asks (record w { driver = d })) (sym new_is) (asking_served g fixed member s a v asks w q reads.idle e l.out l.reported))
-
-  pub wait_whole : IsWhole fixed takes member x (record s { out = l.out; reported = l.reported }) (driver_next w)
-  wait_whole = whole_harvested fixed takes member x s w e t founds.Active row k l
+      subst (λ (d : DriverContent). IsAskingWorld g fixed member s a v asks (record w { driver = d })) (sym new_is) (asking_served g fixed member s a v asks w q reads.idle e s.out s.reported)
 
 pub wait_keeps_asking : WaitKeepsAsking
 wait_keeps_asking g fixed takes member x s a v asks w e t row head k q =
-    asking_of g fixed takes member x _ a v asks (driver_next w) (wait_whole g fixed takes member x s a v asks w e t row k q) (asking_waits g fixed takes member x s a v asks w e t row k q) head
+    let l = leaves fixed takes member x s w e t founds.Active row k in
+    let after : Standing = record s { out = l.out; reported = l.reported } in
+    asking_of g fixed takes member x after a v asks (driver_next w) (whole_harvested fixed takes member x s w e t founds.Active row k l)
+    (subst (λ (r : DriverRow). IsAskingWorld g fixed member after a v asks (with_parts w (after_driver_row r (driver_parts w)))) (sym row)
+    (waits_asks g fixed member s a v asks w e t (due fixed takes member x s w e t founds.Active row k) q)) head
