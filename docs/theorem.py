@@ -64,6 +64,7 @@ SAYS = {
                     "endpoint begin what its device took, and these begin what was put to it. No line follows its end, and nothing is pending then. In mid-run they are compared with all puts "
                     "that weren't refused so far; after the run with all of the script that weren't.",
     "ends": "Whatever a script opens: at each moment, and after the run, no line follows the one that tells the end of a bulk, interrupt or isochronous endpoint, and nothing of it is pending then.",
+    "misses": "At each moment each line that tells a missed microframe is of an endpoint at low or full speed, whatever a script loses, holds and asks.",
     "requests": "Where a script opens high-speed bulk and control endpoints alone: at each moment a device that is no hub acted on each control request at most once, and on nothing but its setup bytes; "
                 "of an endpoint that isn't cancelled a request that is told done was acted on exactly once, with all its data, and one that halted tells a beginning of them.",
     "answers": "At each command of a script: it is refused for the first cause that stands, in the order busy, no endpoint, closed, already open, too long, no placement, no blocks (with the run of blocks that isn't there, and the longest that is), "

@@ -12,6 +12,7 @@ pub mod WithinLoad
 pub mod InTime
 pub mod Streams
 pub mod Ends
+pub mod Misses
 pub mod Requests
 pub mod Reach
 pub mod Releases

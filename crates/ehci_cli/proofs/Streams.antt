@@ -11,10 +11,12 @@ use Rattle.bus_world.specs.Budgets.{moment}
 use Rattle.claims_world.specs.HighStreams.{KeepsAllHighStreams}
 use Rattle.law_reports.proofs.lemmas.pipes.lemmas.puts.PaidMoments.{texts_keep_all_high_streams}
 use Rattle.bus_world.specs.Runs.{IsWholeRunOf}
+use Rattle.claims_world.specs.Misses.{MissesAreBelowThroughout}
 use Rattle.claims_world.specs.Ends.{IsEndedOnce, EndsOnceThroughout, EndsOnce}
 use Rattle.app_forms.specs.Scripts.{OfEachScript}
 use Rattle.ehci_cli.proofs.Each.{of_each}
 use Rattle.law_reports.proofs.lemmas.lines.Ended.{texts_end_once}
+use Rattle.law_reports.proofs.lemmas.quiet.Lines.{texts_miss_below}
 
 -- what is so of the report of each moment with no order left is so of that after the run
 module _ (so : WholeReport → Type 0) where
@@ -30,6 +32,9 @@ ends s k = record { throughout = k; after = λ w ran name other. at_end (λ r. I
 
 pub source_ends_once : (words : List (List ℕ)) (left : Option (List ℕ)) → OfEachScript EndsOnce words left
 source_ends_once = of_each EndsOnce (λ text s spelled. ends s (texts_end_once text s spelled))
+
+pub source_misses_below : (words : List (List ℕ)) (left : Option (List ℕ)) → OfEachScript MissesAreBelowThroughout words left
+source_misses_below = of_each MissesAreBelowThroughout texts_miss_below
 
 pub source_keeps_streams : (words : List (List ℕ)) (left : Option (List ℕ)) → OfEachScript KeepsAllHighStreams words left
 source_keeps_streams = of_each KeepsAllHighStreams texts_keep_all_high_streams

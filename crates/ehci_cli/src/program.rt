@@ -29,6 +29,7 @@ ghost use Rattle.app_forms.specs.Scripts.{OfEachScript};
 ghost use Rattle.claims_world.specs.Scripts.{WhereAsynchronous};
 ghost use Rattle.claims_world.specs.HighStreams.{KeepsAllHighStreams};
 ghost use Rattle.claims_world.specs.Ends.{EndsOnce};
+ghost use Rattle.claims_world.specs.Misses.{MissesAreBelowThroughout};
 ghost use Rattle.claims_world.specs.Heard.{HearsThroughout};
 ghost use Rattle.claims_world.specs.Pending.{PendingIsCounted};
 ghost use Rattle.claims_world.specs.Refused.{CommandsHaveCauses};
@@ -125,7 +126,7 @@ use usb_base::{Sink, Source};
 /// whatever is lost, damaged or held, and whatever else is asked and answers. After the run these are all its streams at high speed.
 ///
 /// Whatever the script opens, no line follows the one that tells the end of a bulk, interrupt or isochronous endpoint, and nothing of it is
-/// pending then, at each moment and after the run.
+/// pending then, at each moment and after the run. No line tells a missed microframe of an endpoint at high speed.
 ///
 /// Where the script opens high-speed bulk and control endpoints only, at each moment each device but a hub acted at most once on each
 /// control request, and only on its setup bytes; of an endpoint that isn't cancelled the report tells of its requests in their order: a
@@ -182,6 +183,7 @@ pub fn ehci<S: Source, K: Sink>(
     ensures goes_on { OfEachScript KeepsToWork (map string_bytes words.now) (S.left source.old) }
     ensures streams { OfEachScript KeepsAllHighStreams (map string_bytes words.now) (S.left source.old) }
     ensures ends { OfEachScript EndsOnce (map string_bytes words.now) (S.left source.old) }
+    ensures misses { OfEachScript MissesAreBelowThroughout (map string_bytes words.now) (S.left source.old) }
     ensures requests { OfEachScript (WhereAsynchronous KeepsRequests) (map string_bytes words.now) (S.left source.old) }
     ensures answers { OfEachScript CommandsHaveCauses (map string_bytes words.now) (S.left source.old) }
     ensures hears { OfEachScript HearsThroughout (map string_bytes words.now) (S.left source.old) }

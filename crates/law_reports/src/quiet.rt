@@ -9,19 +9,19 @@ ghost use Rattle.law_reports.specs.quiet.Laws.{
   CommandMissesNone,
   ScriptsMissNone,
   TextsMissNone,
-  MissesAreBelow,
   TextsMissBelow,
 };
+ghost use Rattle.claims_world.specs.Misses.{MissesAreBelow};
 ghost use Rattle.law_reports.specs.quiet.Samples.{missed_of};
 ghost use Rattle.law_world.specs.memory.Samples.{keyboard, disk};
 
 /// A transaction of a high-speed endpoint that its device answers as its kind may leaves CERR as it was, and none sets Missed Micro-Frame.
-pub fn answers_count_no_error()
+pub fn answers_count_none()
     ensures { AnswersCountNone }
 {}
 
 /// What the driver writes has three errors to come, and tells no missed microframe; what it leaves and gives back stays so.
-pub fn the_driver_leaves_errors()
+pub fn driver_leaves_errors()
     ensures { DriverLeavesErrors }
 {}
 
@@ -41,7 +41,7 @@ pub fn each_moment_misses_none()
 {}
 
 /// So each line that tells a missed microframe is of an endpoint below a hub, whatever the script loses, holds and asks.
-pub fn no_high_speed_endpoint_misses()
+pub fn texts_miss_below()
     ensures { TextsMissBelow }
 {}
 

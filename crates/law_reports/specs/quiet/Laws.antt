@@ -7,33 +7,26 @@
 --     NewWorldMissesNone, ControllerMissesNone, DriverMissesNone, CommandMissesNone      before the first line, and after each event and
 --                              command
 --     ScriptsMissNone, TextsMissNone      so it is at each moment of each script
---     IsOf d line P            the line is of an endpoint of the driver so described
---     MissesAreBelow d         each line that tells a missed microframe is of an endpoint that isn't at high speed
---     TextsMissBelow           so it is at each moment of each script
+--     TextsMissBelow           so each line that tells a missed microframe is of an endpoint below a hub
 use Rattle.std.specs.Prelude.{◌≡◌, ◌≢◌, ℕ, Bool, true, false, List, slice_get, Some}
 use Rattle.usb_base.specs.declared.commands.Cmd.{Cmd}
-use Rattle.usb_base.specs.declared.endpoints.EpDesc.{EpDesc}
 use Rattle.usb_base.specs.declared.packets.Ask.{Ask}
 use Rattle.usb_base.specs.declared.packets.EpKind.TheVariants.{Iso}
 use Rattle.usb_base.specs.declared.packets.Reply.{Reply}
 use Rattle.usb_base.specs.declared.packets.Speed.TheVariants.{High}
 use Rattle.usb_base.specs.declared.packets.Split.TheVariants.{Plain}
-use Rattle.usb_base.specs.declared.reports.Report.{Report}
-use Rattle.usb_base.specs.declared.reports.What.TheVariants as lines
 use Rattle.script_types.specs.declared.scripts.Script.{Script}
 use Rattle.script_fits.specs.Fits.{IsFit}
 use Rattle.script_text.specs.Faults.{Spells}
 use Rattle.toggle_error.specs.declared.host.HostSide.{HostSide}
 use Rattle.toggle_error.specs.Settle.{settled}
 use Rattle.bus_wire.specs.Bus.{Fixed}
-use Rattle.drv_table.specs.declared.content.Endpoint.{Endpoint}
-use Rattle.drv_table.specs.DriverContent.{DriverContent}
 use Rattle.drv_table.specs.Offers.{IsOffered}
-use Rattle.drv_table.specs.Words.{is_high}
 use Rattle.law_controller.specs.frame_control.Joined.{joined}
 use Rattle.law_scripts.specs.byte_answers.Bytes.{IsByteScript}
 use Rattle.bus_world.specs.Budgets.{moment}
 use Rattle.bus_world.specs.Opening.{opening_world}
+use Rattle.claims_world.specs.Misses.{MissesAreBelowThroughout}
 use Rattle.bus_world.specs.World.{World, driver_next, controller_next, commanded}
 use Rattle.law_world.specs.memory.Mixed.{Standing, IsMixedAt}
 use Rattle.law_world.specs.memory.Opens.{OpensMixed}
@@ -90,16 +83,5 @@ TextsMissNone = (text : List ℕ) (s : Script) → Spells text s → (k : ℕ) �
 
 -- ---- lines
 
-pub record IsOf (d : DriverContent) (line : Report) (P : EpDesc → Type 0) : Type 0 where
-  pub number : ℕ
-  pub endpoint : Endpoint
-  pub here : slice_get d.endpoints number ≡ Some endpoint
-  pub name : line.name ≡ endpoint.desc.name
-  pub so : P endpoint.desc
-
-abbrev pub MissesAreBelow : DriverContent → Type 0
-MissesAreBelow d = (i : ℕ) (line : Report) → slice_get d.reports i ≡ Some line → line.what ≡ lines.Miss
-    → IsOf d line (λ x. is_high x.speed ≡ false)
-
 abbrev pub TextsMissBelow : Type 0
-TextsMissBelow = (text : List ℕ) (s : Script) → Spells text s → (k : ℕ) → MissesAreBelow (moment s k).world.driver
+TextsMissBelow = (text : List ℕ) (s : Script) → Spells text s → MissesAreBelowThroughout s

@@ -3,7 +3,7 @@ use Rattle.ehci_cli.proofs.Causes.{source_has_causes, source_is_heard, source_re
 use Rattle.ehci_cli.proofs.Memory.{source_keeps_memory, source_reaches_lent, source_keeps_to_owners, source_gives_back_last, source_leaves_what_is_back}
 use Rattle.ehci_cli.proofs.Memory.{source_keeps_links}
 use Rattle.ehci_cli.proofs.Requests.{source_keeps_requests}
-use Rattle.ehci_cli.proofs.Streams.{source_ends_once, source_keeps_streams}
+use Rattle.ehci_cli.proofs.Streams.{source_ends_once, source_misses_below, source_keeps_streams}
 use Rattle.ehci_cli.proofs.Visits.{source_keeps_visits, source_pays_within_load, source_is_in_time, source_ends_microframes, source_keeps_due, source_does_slots, source_keeps_to_work, source_repeats_after_losses}
 use Rattle.ehci_cli.proofs.Visits.{source_does_what_is_due_at_begin, source_does_slots_at_begin, source_keeps_translators}
 use Rattle.ehci_cli.proofs.Whole.{whole_load}
@@ -80,6 +80,9 @@ returns-clause-streams g c = source_keeps_streams _ _
 
 pub returns-clause-ends : goal.returns-clause-ends
 returns-clause-ends g c = source_ends_once _ _
+
+pub returns-clause-misses : goal.returns-clause-misses
+returns-clause-misses g c = source_misses_below _ _
 
 pub returns-clause-requests : goal.returns-clause-requests
 returns-clause-requests g c = source_keeps_requests _ _

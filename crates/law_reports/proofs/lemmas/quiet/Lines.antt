@@ -51,7 +51,8 @@ use Rattle.law_reports.proofs.lemmas.pipes.Accepted.{EndsThen, one_more as one_e
 use Rattle.law_reports.proofs.lemmas.pipes.Across.{IsNowIn, is_now_in, row_ends}
 use Rattle.law_reports.proofs.lemmas.pipes.Moments.{texts_are_piped}
 use Rattle.law_reports.specs.quiet.Errors.{key_of}
-use Rattle.law_reports.specs.quiet.Laws.{IsUnmissedWorld, IsOf, MissesAreBelow, TextsMissBelow}
+use Rattle.claims_world.specs.Misses.{IsLineOf, MissesAreBelow}
+use Rattle.law_reports.specs.quiet.Laws.{IsUnmissedWorld, TextsMissBelow}
 use Rattle.law_reports.proofs.lemmas.quiet.Tokens.{token_there, is_met, part_there, head_there, token_read, queue_is, met_as}
 use Rattle.law_reports.proofs.lemmas.quiet.Worlds.{texts_miss_none}
 
@@ -122,7 +123,7 @@ last_or (x ∷ xs) z (suc i) v is = last_or xs z i v is
 
 is_of : (d f : DriverContent) → ((e : ℕ) (y : Endpoint) → slice_get d.endpoints e ≡ Some y → IsNowIn f.endpoints e y)
     → (line : Report) (P : EpDesc → Type 0)
-    → IsOf d line P → IsOf f line P
+    → IsLineOf d line P → IsLineOf f line P
 is_of d f now line P k =
     let z = now k.number k.endpoint k.here in
     record {
@@ -139,7 +140,7 @@ IsBelow x = is_high x.speed ≡ false
 module _ (w : World) (reads : ReadsUnmissed w) where
   token_below : (notes : List QtdNote) (line : Report) (bytes : List ℕ) → IsToldByToken (driver_parts w) notes line bytes
       → line.what ≡ lines.Miss
-      → IsOf w.driver line IsBelow
+      → IsLineOf w.driver line IsBelow
   token_below notes line bytes k is = record {
     number = k.of.transfer.endpoint;
     endpoint = k.of.endpoint;
@@ -155,7 +156,7 @@ module _ (w : World) (reads : ReadsUnmissed w) where
           ∙ missed_told _ _ (token_of w.memory k.of.transfer.place) line.what k.reason is))
 
   reason_below : (notes : List QtdNote) (line : Report) (bytes : List ℕ) → Reason (driver_parts w) notes line bytes → line.what ≡ lines.Miss
-      → IsOf w.driver line IsBelow
+      → IsLineOf w.driver line IsBelow
   reason_below notes line bytes (by_token k) is = token_below notes line bytes k is
   reason_below notes line bytes (behind k) is = absurd (no_halt (sym k.what ∙ is))
     where
@@ -172,11 +173,11 @@ module _ (w : World) (reads : ReadsUnmissed w) where
 
   told_below : (notes : List QtdNote) (reports : List Report) (store : List ℕ) → AreTold (driver_parts w) notes reports store
       → MissesAreBelow w.driver
-      → (i : ℕ) (line : Report) → slice_get reports i ≡ Some line → line.what ≡ lines.Miss → IsOf w.driver line IsBelow
+      → (i : ℕ) (line : Report) → slice_get reports i ≡ Some line → line.what ≡ lines.Miss → IsLineOf w.driver line IsBelow
   told_below notes _ _ nothing old i line here is = old i line here is
   told_below notes _ _ (one_more reports store bytes z told reason from long) old i line here is =
       ⊎_elim (λ (was : slice_get reports i ≡ Some line). told_below notes reports store told old i line was is)
-      (λ (new : line ≡ z). subst (λ (v : Report). IsOf w.driver v IsBelow) (sym new)
+      (λ (new : line ≡ z). subst (λ (v : Report). IsLineOf w.driver v IsBelow) (sym new)
       (reason_below notes z bytes reason (ap (λ (v : Report). v.what) (sym new) ∙ is))) (last_or reports z i line here)
 
   driver_below : MissesAreBelow w.driver → MissesAreBelow (driver_next w).driver
@@ -210,7 +211,7 @@ refused_below w n name why old i line here told =
     no_refusal : ◌≡◌ {A = What} (lines.Refused n why) lines.Miss → ⊥
     no_refusal e = cc
 
-    again : IsOf w.driver line IsBelow → IsOf (commanded_by w n name (Err why)).driver line IsBelow
+    again : IsLineOf w.driver line IsBelow → IsLineOf (commanded_by w n name (Err why)).driver line IsBelow
     again k = record { number = k.number; endpoint = k.endpoint; here = k.here; name = k.name; so = k.so }
 
 command_by : (w : World) (n : ℕ) (cmd : Cmd) (name : EpName) (r : Result Offered OfferError) → offered w.driver w.memory cmd ≡ r

@@ -147,10 +147,10 @@ module _ (Q : Key → Bool) (x : Key) (ask : Ask) (sent : ℕ) (last : Bool) (re
       ∙ pid_counts ask.kind ask.pid host reply sent some is)
 
   -- what an active side is left as
-  pub settled_left : (x.eps ≡ 2 → host.missed ≡ false) → (Q x ≡ true → host.cerr ≢ 0)
+  pub answers_count_none : (x.eps ≡ 2 → host.missed ≡ false) → (Q x ≡ true → host.cerr ≢ 0)
       → (Q x ≡ true → (ask.split ≡ splits.Plain) × ((ask.speed ≡ High) × ((ask.kind ≢ kinds.Iso) × (tells ask.kind ask.pid reply ≡ true))))
       → HostHasLeft Q x (settled ask sent last reply host)
-  settled_left met some told = record {
+  answers_count_none met some told = record {
     met = λ high. row_missed (settle_row ask sent last reply host) host ∙ met high;
     going = λ on act none. some on (sym (plain_is (told on).0 (told on).1.0 (told on).1.1.0 (told on).1.1.1) ∙ none);
     stopped = λ on act none. some on (sym (plain_is (told on).0 (told on).1.0 (told on).1.1.0 (told on).1.1.1) ∙ none);

@@ -8,7 +8,7 @@ use Rattle.drv_table.specs.declared.content.Endpoint.{Endpoint}
 use Rattle.drv_table.specs.Offers.{new_endpoint}
 use Rattle.drv_table.specs.Words.{is_high}
 use Rattle.law_world.specs.memory.Samples.{keyboard, disk}
-use Rattle.law_reports.specs.quiet.Laws.{IsOf, MissesAreBelow}
+use Rattle.claims_world.specs.Misses.{IsLineOf, MissesAreBelow}
 use Rattle.law_reports.specs.quiet.Samples.{line_of, missed_of}
 
 pub a_keyboard_misses : MissesAreBelow (missed_of keyboard)
@@ -28,7 +28,7 @@ a_keyboard_misses (suc i) line here is = absurd (none i here)
 pub no_disk_misses : MissesAreBelow (missed_of disk) → ⊥
 no_disk_misses k = by (k 0 (line_of disk) refl refl)
   where
-    by : IsOf (missed_of disk) (line_of disk) (λ x. is_high x.speed ≡ false) → ⊥
+    by : IsLineOf (missed_of disk) (line_of disk) (λ x. is_high x.speed ≡ false) → ⊥
     by o = at o.number o.here
       where
         none : (j : ℕ) → slice_get [] j ≡ Some o.endpoint → ⊥

@@ -56,7 +56,7 @@ use Rattle.law_reports.specs.quiet.Laws.{HasErrorsLeft, DriverLeavesErrors, none
 use Rattle.law_reports.specs.quiet.Laws.{DriverMissesNone, CommandMissesNone, ScriptsMissNone, TextsMissNone}
 use Rattle.law_reports.proofs.lemmas.pipes.Opening.{new_standing, new_mixed}
 use Rattle.law_reports.proofs.lemmas.quiet.Events.{ring_parts, ring_hand, frame_parts, frame_hand}
-use Rattle.law_reports.proofs.lemmas.quiet.Rows.{settled_left}
+use Rattle.law_reports.proofs.lemmas.quiet.Rows.{answers_count_none}
 use Rattle.law_reports.proofs.lemmas.quiet.Steps.{step_parts, step_hand, driver_publishes, command_publishes}
 
 -- ---- the driver
@@ -156,7 +156,7 @@ module _ (fixed : Fixed) (s : Standing) (w : World) (mixed : IsMixedAt s w) (a :
       let q = m.copy.queue in
       let token : TokenHasLeft none (key_of q) q.token = (both_left none (λ x on. absurd
       (false≢true on)) fixed s w mixed a k m.copy.at).head q here in
-      settled_left none (key_of q) (call_in (ring_planned q) m.out false).ask (call_in (ring_planned q) m.out false).sent false m.reply
+      answers_count_none none (key_of q) (call_in (ring_planned q) m.out false).ask (call_in (ring_planned q) m.out false).sent false m.reply
       (host_in q) token.met (λ on. absurd (false≢true on)) (λ on. absurd (false≢true on))
 
   frames_none : (m : MakesOfQueue transacts_by (both s.descs s.parts) w.control.frame s.frame (wired fixed w) (wired fixed
@@ -167,7 +167,7 @@ module _ (fixed : Fixed) (s : Standing) (w : World) (mixed : IsMixedAt s w) (a :
       let q = m.copy.queue in
       let token : TokenHasLeft none (key_of q) q.token = (both_left none (λ x on. absurd
       (false≢true on)) fixed s w mixed a k m.copy.at).head q here in
-      settled_left none (key_of q) (call_in (planned q) m.out (is_last_of w.control.frame.index q)).ask
+      answers_count_none none (key_of q) (call_in (planned q) m.out (is_last_of w.control.frame.index q)).ask
       (call_in (planned q) m.out (is_last_of w.control.frame.index q)).sent (is_last_of w.control.frame.index q) m.reply
       (host_in q) token.met (λ on. absurd (false≢true on)) (λ on. absurd (false≢true on))
 
