@@ -14,6 +14,7 @@ run python3 -B docs/footprints.py --check
 run python3 -B docs/fanout.py --check
 run python3 -B docs/lines.py
 run python3 -B docs/ways.py
+run python3 -B docs/edits.py
 run python3 -B docs/check_tools.py
 run examples/same.sh
 exit "$first"

@@ -78,19 +78,65 @@ def check_texts():
 
 
 def check_pictures(program, trace):
-    """The pictures of README are XML, and what the programs give for their script."""
+    """The pictures of README are XML, fit on 1,200 pixels, and are what the programs give for their script."""
     for path in (TOP / "docs").glob("*.svg"):
-        xml.dom.minidom.parse(str(path))
+        if int(xml.dom.minidom.parse(str(path)).documentElement.getAttribute("width")) > 1200:
+            amiss(f"docs/{path.name} is wider than 1,200 pixels")
+        if f"](docs/{path.name})" not in (TOP / "README.md").read_text():
+            amiss(f"README.md doesn't show docs/{path.name}")
     script = (TOP / "docs/pictures.ehci").read_bytes()
     drawn = {}
     if trace:
         drawn["microframes.svg"] = run("./ehci-trace", "--svg", "--from", "64", "--to", "79", input=script).stdout
     if program:
-        dump = run(program, "dump", input=run(program, "image", input=script).stdout).stdout
-        drawn["structures.svg"] = run(sys.executable, str(TOOLS / "draw_structures.py"), input=dump).stdout
+        drawn["structures.svg"] = run("./ehci", "--svg", "dump", input=run(program, "image", input=script).stdout).stdout
     for name, picture in drawn.items():
         if picture != (TOP / "docs" / name).read_bytes():
             amiss(f"docs/{name} is another picture than the programs'")
+
+
+def check_planned():
+    """tools/explain.py knows which words of version 2 aren't built."""
+    text = (TOP / "docs/FORMATS.md").read_text().partition("## Version 2")[2].partition("Lines of the report:")[0]
+    unbuilt = {it for row in re.findall(r"(?m)^\| (.*?) \|.*\| no \|$", text) for it in re.findall(r"`(\w+) ", row + " ")}
+    known = set(re.findall(r"\w+", re.search(r"PLANNED = \((.*)\)", (TOOLS / "explain.py").read_text())[1]))
+    for it in sorted(unbuilt ^ known):
+        amiss(f"`{it}` stands in one alone of FORMATS.md as not built and of tools/explain.py")
+
+
+def check_install(room, program):
+    """What `make install` puts there runs by itself, and goes again."""
+    if not shutil.which("make"):
+        print("left out: make isn't installed")
+        return
+    words = ("make", "-s", f"DESTDIR={room / 'dest'}", "PREFIX=/usr")
+    got = run(*words, "install")
+    if got.returncode:
+        amiss(f"make install: {got.stderr.decode()[-300:]}")
+        return
+    there = room / "dest/usr"
+    for name in ("share/man/man1/ehci.1", "share/man/man1/ehci-trace.1", "share/man/man1/ehci-probe.1", "share/bash-completion/completions/ehci"):
+        if not (there / name).is_file():
+            amiss(f"make install leaves out {name}")
+    script, report = (there / f"share/doc/ehci/examples/first-transfer.{it}" for it in ("ehci", "report"))
+    got = subprocess.run([str(there / "bin/ehci"), "run", str(script)], capture_output=True, cwd=room, check=False)
+    if (got.returncode, got.stdout) != (0, report.read_bytes()):
+        amiss(f"what is installed runs no example: {got.stderr.decode()[-200:]}")
+    version = subprocess.run([str(there / "bin/ehci"), "--version"], capture_output=True, cwd=room, check=False).stdout.decode().split("\n")
+    own = run(program, "--version").stdout.decode().split("\n")[0]
+    if version[0] != own or not version[1].startswith("rattle-kit-"):
+        amiss(f"the version that is installed says {version}")
+    run(*words, "uninstall")
+    left = [it.name for it in (room / "dest").rglob("*") if it.is_file() or it.is_symlink()]
+    if left:
+        amiss(f"make uninstall leaves {', '.join(left)}")
+
+
+def check_budgets():
+    """A refused open is told with the budget that each placement breaks."""
+    got = run("./ehci", "run", "examples/refused-placement.ehci")
+    if not re.search(rb"no-placement: the first budget that each placement breaks:\n    .*, \d+ too many \([0-9.]+%\)", got.stderr):
+        amiss(f"./ehci run of refused-placement says {got.stderr.decode()[:200]}")
 
 
 def check_wrapper(room):
@@ -106,6 +152,8 @@ def check_wrapper(room):
         (("check",), 3, faulty, b"line 2: word\n"),
         (("run", script, "more"), 2, b"", b""),
         (("--fold", "run", script), 2, b"", b""),
+        (("--svg", "run", script), 2, b"", b""),
+        (("--svg", "dump"), 3, faulty, b"offset 17: length\n"),
     ):
         got = run("./ehci", *words, input=text)
         if (got.returncode, got.stdout) != (status, output):
@@ -168,10 +216,14 @@ def main():
         check_rows(room, program)
         check_fold()
         check_machine()
+        check_planned()
         check_captures(room)
         check_pictures(program, trace)
         if program:
             check_wrapper(room)
+            check_install(room, program)
+        if program and trace:
+            check_budgets()
     print(f"tools: {len(wrong)} amiss")
     return 1 if wrong else 0
 

@@ -1,6 +1,6 @@
 #!/usr/bin/env bash
 # Compares what the wrapper says at once with what the built programs `ehci` and `ehci_machine` say at the same words: standard output,
-# standard error and status.
+# standard error and status. Then come the rows of docs/check_tools.py, of which many want a program that is built.
 cd "$(dirname "$0")/.." || exit 2
 top=$PWD
 programs=("$top/crates/ehci/out/ehci" "$top/crates/ehci_machine/out/ehci_machine")
@@ -46,4 +46,5 @@ same 'run '
 for form in run image check dump "load 0" "load 7" "load 999999"; do
   left $form
 done
+python3 -B docs/check_tools.py || status=1
 exit "$status"

@@ -6,10 +6,10 @@ _ehci() {
     run | image | check | dump) mapfile -t COMPREPLY < <(compgen -f -- "$word") ;;
     load | probe) COMPREPLY=() ;;
     --strict) mapfile -t COMPREPLY < <(compgen -W "run" -- "$word") ;;
-    --fold) mapfile -t COMPREPLY < <(compgen -W "dump" -- "$word") ;;
+    --fold | --svg) mapfile -t COMPREPLY < <(compgen -W "dump" -- "$word") ;;
     *)
       if [ "$COMP_CWORD" -eq 1 ]; then
-        mapfile -t COMPREPLY < <(compgen -W "run image check dump load probe --strict --fold --build --prove --help --version" -- "$word")
+        mapfile -t COMPREPLY < <(compgen -W "run image check dump load probe --strict --fold --svg --build --prove --help --version" -- "$word")
       fi
       ;;
   esac

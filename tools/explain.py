@@ -64,6 +64,8 @@ SECOND = {
     "hub": FORMS["hub"] + [FORMS["hub"][0] + [word("multi")]],
     "stuff": [EP + [number("number of stuffed bytes in 36", 0, 6)]],
 }
+# what version 2 names and isn't built (docs/FORMATS.md)
+PLANNED = ("frames", "park", "epoch", "root", "classic", "disk", "clear", "plug", "unplug", "reset", "give", "read", "write", "revive")
 ACTIONS = ("open", "cancel", "get", "put", "control", "iso", "order")
 SIZES = {
     "control": {"high": (64,), "full": (8, 16, 32, 64), "low": (8,)},
@@ -156,11 +158,16 @@ def shown(name):
 # ---- faults. Each answers with the place of a word, from 0 at the first one of the line, and what is wrong with it.
 
 
-def why_word(words):
-    if words[0] not in FORMS:
-        yield 0, f"`{words[0]}` begins no line: {', '.join(FORMS)}"
-        return
-    yield from why_slot(words)
+def why_word(words, is_second):
+    first = words[0]
+    if first in FORMS:
+        yield from why_slot(words)
+    elif is_second and first in PLANNED:
+        yield 0, f"`{first}` is a word of version 2 that isn't built"
+    elif first in SECOND:
+        yield 0, f"`{first}` is of version 2: line 1 is `ehci 2` then"
+    else:
+        yield 0, f"`{first}` begins no line: {', '.join(FORMS)}"
 
 
 def why_slot(words):
@@ -175,16 +182,18 @@ def why_slot(words):
                 slots = (slots if k == reach else []) + [form[k]]
                 reach = k
     if slots:
-        choices = dict.fromkeys(wanted(it) for it in slots)
+        named = [f"`{word}`" for it in slots if it[0] == "word" for word in it[2]]
+        choices = dict.fromkeys([*named, *(wanted(it) for it in slots if it[0] != "word")])
         yield reach + 1, f"`{words[reach + 1]}` stands in the place of {' or '.join(choices)}"
 
 
-def why_count(words):
+def why_count(words, is_second):
     counts = sorted({len(it) for it in FORMS[words[0]]})
+    is_new = not is_second and len(words) - 1 in {len(it) for it in SECOND.get(words[0], [])}
     if words[0] == "control" and len(words) > 4:
         yield 2, "the 8 bytes of SETUP are one word of 16 digits, without spaces"
     else:
-        yield 0, f"`{words[0]}` has {among(counts)} words behind it, not {len(words) - 1}"
+        yield 0, f"`{words[0]}` has {among(counts)} words behind it, not {len(words) - 1}" + (", which is of version 2" if is_new else "")
 
 
 def form_of(words):
@@ -361,18 +370,19 @@ def fault(raw, line, cause):
         return list(why_byte(text))
     text = text.decode("ascii")
     if cause == "version":
-        return [(1, f"`{text[:40]}` is no version: line 1 is `ehci 1`")]
-    if lines[0] == b"ehci 2":
+        return [(1, f"`{text[:40]}` is no version: line 1 is `ehci 1` or `ehci 2`")]
+    is_second = lines[0] == b"ehci 2"
+    if is_second:
         FORMS.update(SECOND)
     words = text.split(" ")
     if cause == "word" and "" in words:
         return list(why_spaces(text))
     draft = Draft([it.decode("ascii") for it in lines[: line - 1]])
     rules = {
-        "word": lambda: why_word(words),
+        "word": lambda: why_word(words, is_second),
         "number": lambda: why_slot(words),
         "hex": lambda: why_slot(words),
-        "count": lambda: why_count(words),
+        "count": lambda: why_count(words, is_second),
         "range": lambda: why_range(draft, words),
         "unknown": lambda: why_unknown(draft, words),
         "twice": lambda: why_twice(draft, words),

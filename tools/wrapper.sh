@@ -146,14 +146,15 @@ start_explained() {
   return "$status"
 }
 
-# Says on standard error what the refusals in the output mean. For an open that found no placement the trace has the budgets.
+# Says on standard error what the refusals in the output mean. For an open that found no placement the trace has the budgets; where it isn't
+# built, its sources run for that.
 explain() {
   local schedule=
   command -v python3 >/dev/null || return
   LC_ALL=C grep -aqE '^(line|offset) [0-9]+: |^[0-9]+ [0-9.]+ command of line [0-9]+ refused ' "$room/output" || return
-  if LC_ALL=C grep -aq ' refused no-placement$' "$room/output" && choose ehci_trace; then
+  if LC_ALL=C grep -aq ' refused no-placement$' "$room/output"; then
     schedule=$room/schedule
-    "$program" --schedule <"$room/input" >"$schedule"
+    start ehci_trace -- --schedule <"$room/input" >"$schedule" 2>/dev/null || schedule=
   fi
   python3 "$tools/explain.py" "$room/input" "$room/output" ${schedule:+"$schedule"} >&2 2>/dev/null
 }
