@@ -179,18 +179,7 @@ row_goes rows.Lend parts is command queued =
     record { work = h.work; is = h.is; member = h.member }
 row_goes (rows.Store b at v) parts is command queued = advance_goes parts.driver command queued
 row_goes rows.Rest parts is command queued = itself_goes parts.driver
-row_goes (rows.Mend m) parts is command queued = absurd is
-row_goes rows.LendDescriptors parts is command queued = absurd is
-row_goes rows.Frames parts is command queued = absurd is
-row_goes (rows.Unlink t) parts is command queued = absurd is
-row_goes (rows.ReleaseRemoved what) parts is command queued = absurd is
-row_goes (rows.ReleaseTransfer t) parts is command queued = absurd is
-row_goes (rows.ReleaseEndpoint f) parts is command queued = absurd is
-row_goes rows.ClearAdvance parts is command queued = absurd is
-row_goes rows.RingBell parts is command queued = absurd is
-row_goes (rows.ReadStatus heard) parts is command queued = absurd is
-row_goes (rows.ReadFrame n) parts is command queued = absurd is
-row_goes (rows.Harvest f t found) parts is command queued = absurd is
+row_goes _ parts is command queued = absurd is
 
 pub chain_goes : (w : World) → IsMixedWorld w → w.driver.command ≡ Some unfinished.Chain → (v : Work)
     → (driver_next w).driver.command ≡ Some unfinished.Chain → (driver_next w).driver.periodic.list.work ≡ Some v

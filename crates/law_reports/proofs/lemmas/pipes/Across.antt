@@ -133,17 +133,7 @@ row_command rows.Lend p = advanced p.driver (record p.driver { book = _ }) refl
 row_command (rows.Store b at v) p = advanced p.driver p.driver refl
 row_command rows.LendDescriptors p = advanced p.driver (record p.driver { book = _ }) refl
 row_command rows.Frames p = framed p.driver p.registers.frame_index p.driver.command
-row_command (rows.Mend m) p = inl (command_stays (rows.Mend m) p p.driver.command refl refl)
-row_command (rows.Unlink t) p = inl (command_stays (rows.Unlink t) p p.driver.command refl refl)
-row_command (rows.ReleaseRemoved what) p = inl (command_stays (rows.ReleaseRemoved what) p p.driver.command refl refl)
-row_command (rows.ReadFrame n) p = inl (command_stays (rows.ReadFrame n) p p.driver.command refl refl)
-row_command (rows.ReleaseTransfer t) p = inl (command_stays (rows.ReleaseTransfer t) p p.driver.command refl refl)
-row_command (rows.ReleaseEndpoint e) p = inl (command_stays (rows.ReleaseEndpoint e) p p.driver.command refl refl)
-row_command rows.ClearAdvance p = inl (command_stays rows.ClearAdvance p p.driver.command refl refl)
-row_command rows.RingBell p = inl (command_stays rows.RingBell p p.driver.command refl refl)
-row_command (rows.ReadStatus heard) p = inl (command_stays (rows.ReadStatus heard) p p.driver.command refl refl)
-row_command (rows.Harvest e t found) p = inl (command_stays (rows.Harvest e t found) p p.driver.command refl refl)
-row_command rows.Rest p = inl refl
+row_command row p = inl (command_stays row p p.driver.command refl refl)
 
 -- ---- .. as the queues tell it
 

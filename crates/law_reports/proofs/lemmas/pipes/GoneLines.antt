@@ -171,21 +171,16 @@ module _ (p : Parts) where
   pub row_tells : (row : DriverRow) → HasOwners p.driver → QueuesTakeTurns p.driver → IsDue p row → AtMost row
   row_tells rows.Lend owners turns due = tells_so rows.Lend (tells_by rows.Lend p refl refl)
   row_tells (rows.Store b at v) owners turns due = tells_so (rows.Store b at v) (tells_by (rows.Store b at v) p refl refl)
-  row_tells (rows.Mend w) owners turns due = tells_none refl refl
   row_tells rows.Frames owners turns due = tells_so rows.Frames (tells_by rows.Frames p refl refl)
   row_tells rows.LendDescriptors owners turns due = tells_so rows.LendDescriptors (tells_by rows.LendDescriptors p refl refl)
   row_tells (rows.Unlink t) owners turns due = tells_so (rows.Unlink t) (tells_by (rows.Unlink t) p refl refl)
   row_tells (rows.ReleaseRemoved (removed.Descriptor t)) owners turns due =
       tells_so (rows.ReleaseRemoved (removed.Descriptor t)) (tells_by (rows.ReleaseRemoved (removed.Descriptor t)) p refl refl)
   row_tells (rows.ReleaseRemoved (removed.Endpoint e)) owners turns due = removed_end e (slice_get p.driver.endpoints e) refl
-  row_tells (rows.ReadFrame n) owners turns due = tells_none refl refl
   row_tells (rows.ReleaseTransfer t) owners turns due = tells_so (rows.ReleaseTransfer t) (tells_by (rows.ReleaseTransfer t) p refl refl)
   row_tells (rows.ReleaseEndpoint e) owners turns due = released e (slice_get p.driver.endpoints e) refl
-  row_tells rows.ClearAdvance owners turns due = tells_none refl refl
-  row_tells rows.RingBell owners turns due = tells_none refl refl
-  row_tells (rows.ReadStatus heard) owners turns due = tells_none refl refl
   row_tells (rows.Harvest e t found) owners turns due =
       ⊎_elim (λ (is : is_descriptor due.transfer.sort ≡ true). described e t found due owners turns is found refl)
       (λ (is : is_descriptor due.transfer.sort ≡ false). told_qtds e t found due owners turns is)
       (cases_Bool (is_descriptor due.transfer.sort))
-  row_tells rows.Rest owners turns due = tells_none refl refl
+  row_tells _ owners turns due = tells_none refl refl

@@ -116,16 +116,4 @@ row_keeps (rows.Store b at v) p other = went_on p.driver p.driver.command
 row_keeps rows.LendDescriptors p other =
     let h = lend_taken (holding p.driver.book (linked_by p.driver p.memory p.driver.command)) in
     went_on (record p.driver { book = h.book }) p.driver.command
-row_keeps (rows.Mend w) p other = same p.driver.endpoints (after_driver_row (rows.Mend w) p).driver.endpoints refl
-row_keeps rows.Frames p other = same p.driver.endpoints (after_driver_row rows.Frames p).driver.endpoints
-    (endpoints_stays rows.Frames p p.driver.command refl refl)
-row_keeps (rows.Unlink t) p other = same p.driver.endpoints (after_driver_row (rows.Unlink t) p).driver.endpoints
-    (endpoints_stays (rows.Unlink t) p p.driver.command refl refl)
-row_keeps (rows.ReadFrame n) p other = unchanged p.driver
-row_keeps (rows.ReleaseTransfer t) p other =
-    same p.driver.endpoints (after_driver_row (rows.ReleaseTransfer t) p).driver.endpoints
-    (endpoints_stays (rows.ReleaseTransfer t) p p.driver.command refl refl)
-row_keeps rows.ClearAdvance p other = unchanged p.driver
-row_keeps rows.RingBell p other = unchanged p.driver
-row_keeps (rows.ReadStatus heard) p other = unchanged p.driver
-row_keeps rows.Rest p other = unchanged p.driver
+row_keeps row p other = same p.driver.endpoints (after_driver_row row p).driver.endpoints (endpoints_stays row p p.driver.command refl refl)

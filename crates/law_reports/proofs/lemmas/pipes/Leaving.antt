@@ -65,19 +65,7 @@ busy_gives_none : (row : DriverRow) (p : Parts) → IsDue p row → (p.driver.co
 busy_gives_none (rows.ReleaseEndpoint e) p due busy = absurd (busy due.idle)
 busy_gives_none (rows.ReleaseRemoved (removed.Endpoint e)) p due busy = absurd (busy due.idle)
 busy_gives_none (rows.ReleaseRemoved (removed.Descriptor t)) p due busy = tt
-busy_gives_none rows.Lend p due busy = tt
-busy_gives_none (rows.Store b at v) p due busy = tt
-busy_gives_none (rows.Mend w) p due busy = tt
-busy_gives_none rows.Frames p due busy = tt
-busy_gives_none rows.LendDescriptors p due busy = tt
-busy_gives_none (rows.Unlink t) p due busy = tt
-busy_gives_none (rows.ReadFrame n) p due busy = tt
-busy_gives_none (rows.ReleaseTransfer t) p due busy = tt
-busy_gives_none rows.ClearAdvance p due busy = tt
-busy_gives_none rows.RingBell p due busy = tt
-busy_gives_none (rows.ReadStatus heard) p due busy = tt
-busy_gives_none (rows.Harvest e t found) p due busy = tt
-busy_gives_none rows.Rest p due busy = tt
+busy_gives_none _ p due busy = tt
 
 -- ---- a step
 

@@ -187,7 +187,6 @@ by_row p rows.Lend only due =
     let f : DriverContent = record p.driver { book = (lend_taken (holding p.driver.book p.memory)).book } in
     alike_silent p.driver _ (lent p.driver p.memory) (same_notes p.driver (advance f) (advanced_keeps f p.driver.command only.command).notes)
 by_row p (rows.Store b at v) only due = alike_silent p.driver _ (advanced p.driver) (same_notes p.driver (advance p.driver) (advanced_keeps p.driver p.driver.command only.command).notes)
-by_row p (rows.Mend m) only due = same_silent p.driver _ refl refl
 by_row p rows.Frames only due = subst (StaysSilent p.driver) (sym (framed_same p.driver p.registers.frame_index p.driver.command only.command)) (same_silent p.driver p.driver refl refl)
 by_row p rows.LendDescriptors only due =
     let q = linked_by p.driver p.memory p.driver.command in
@@ -205,14 +204,10 @@ by_row p (rows.ReleaseEndpoint e) only due = gone (slice_get p.driver.endpoints 
     gone : (o : Option Endpoint) → StaysSilent p.driver (after_endpoint p e o).driver
     gone None = same_silent p.driver p.driver refl refl
     gone (Some x) = let_go_silent p.driver _ e (is_told x) (ap (λ (ys : List Transfer). map (let_go e (is_told x)) ys) (told_transfers p.driver p.memory e x)) (told_notes p.driver p.memory e x (is_told x))
-by_row p rows.ClearAdvance only due = same_silent p.driver _ refl refl
-by_row p rows.RingBell only due = same_silent p.driver _ refl refl
-by_row p (rows.ReadStatus heard) only due = same_silent p.driver _ refl refl
-by_row p (rows.ReadFrame n) only due = same_silent p.driver _ refl refl
 by_row p (rows.Harvest e t found) only due =
     alike_silent p.driver _ (harvested p.driver p.memory e t found (slice_get p.driver.endpoints e) (slice_get p.driver.transfers t) refl refl)
     (harvest_told p.driver p.memory e t found (slice_get p.driver.endpoints e) (slice_get p.driver.transfers t))
-by_row p rows.Rest only due = same_silent p.driver p.driver refl refl
+by_row p _ only due = same_silent p.driver _ refl refl
 
 pub row_keeps_silent : RowKeepsSilent
 row_keeps_silent p only silent = stays_silent p.driver (after_driver_row (driver_row p) p).driver (by_row p (driver_row p) only (each_event_is_due p)) silent
