@@ -197,9 +197,12 @@ def check_machine():
     if texts[0] != texts[1]:
         amiss("crates/ehci and crates/ehci_machine say otherwise of themselves")
     words = f'me=check top="{TOP}"; . tools/wrapper.sh; crates_below ehci_machine'
-    for name in run("bash", "-c", words).stdout.decode().split():
+    below = run("bash", "-c", words).stdout.decode().split()
+    for name in below:
         if name.startswith("claims_"):
             amiss(f"ehci_machine stands on {name}")
+    if f"the machine alone, {len(below)} crates" not in (TOP / "README.md").read_text():
+        amiss(f"README.md says another number than the {len(below)} crates of ehci_machine")
 
 
 def current(*crates):

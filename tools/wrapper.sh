@@ -74,15 +74,15 @@ build_program() {
   echo "$me: proved and built" >&2
 }
 
-# Proves every crate, with all processors, and builds the program of a crate.
+# Proves every crate, with all processors, and builds the programs of these.
 prove() {
-  local crates
+  local crates name
   has_sources || return
   crates=$(sed -E 's/#.*//; /^ *$/d' "$top/crates.txt" | wc -l)
   echo "$me: proves $crates crates; a first pass over all sources takes minutes, then each crate has a line" >&2
   : >"$log"
   (cd "$top" && rt all check --jobs "$(nproc)") 2>&1 </dev/null | tell_progress "$crates"
-  build_program "$1"
+  for name in "$@"; do build_program "$name" || return; done
 }
 
 # Proves the crates that a program stands on, as many at once as there are processors, and builds it. A crate waits for those below it.
@@ -101,7 +101,7 @@ build() {
 try() {
   local crate=$1 said status
   shift
-  echo "$me: this run is of the sources as they stand, unproved; './$me --prove' proves and builds the program" >&2
+  echo "$me: this run is of the sources as they stand, unproved; './$me --build' or './$me --prove' proves and builds programs" >&2
   said=$(mktemp) || exit 1
   (cd "$top/crates/$crate" && rt try -- "$@") 2>"$said"
   status=$(sed -nE 's/^run=ended status=([0-9]+) .*/\1/p' "$said" | tail -n 1)
