@@ -13,6 +13,7 @@ pub mod InTime
 pub mod Streams
 pub mod Ends
 pub mod Misses
+pub mod Quiet
 pub mod Requests
 pub mod Reach
 pub mod Releases
