@@ -37,7 +37,8 @@ module _ (runs : Script → Standing → Type 0) where
     finished_as Memory other read write answer = lacks_memory answer
     finished_as Words other read write answer = absurd (other refl)
     finished_as Refused other read write answer = absurd (unrefused form input answer.0 sound answer.1)
-    finished_as ReadFault other read write answer = absurd (reads (subst (Rose faults.read_before) (sym read) (rose_by_one faults.read_before)))
+    finished_as ReadFault other read write answer =
+        absurd (reads (subst (Rose faults.read_before) (sym read) (rose_by_one faults.read_before)))
     finished_as WriteFault other read write answer =
         absurd (writes (subst (Rose faults.written_before) (sym write) (rose_by_one faults.written_before)))
 
