@@ -1,5 +1,6 @@
 //! What is never told of endpoints at high speed (EHCI 1.0, 3.5.3, 4.10.3 and 4.12.2; USB 2.0, 8.5 and 8.6): a missed microframe is that
-//! of a split transaction, and the count of errors falls only where an answer counts one.
+//! of a split transaction, and the count of errors falls only where an answer counts one; where every packet on the high-speed bus gets
+//! through, none does.
 ghost use Rattle.law_reports.specs.quiet.Laws.{
   AnswersCountNone,
   DriverLeavesErrors,
@@ -11,7 +12,18 @@ ghost use Rattle.law_reports.specs.quiet.Laws.{
   TextsMissNone,
   TextsMissBelow,
 };
+ghost use Rattle.law_reports.specs.quiet.HeardLaws.{
+  AskKeepsHeard,
+  BeginKeepsHeard,
+  OpeningIsHeard,
+  ControllerKeepsHeard,
+  DriverKeepsHeard,
+  TextsAreHeard,
+  TextsFailBelow,
+};
 ghost use Rattle.claims_world.specs.Misses.{MissesAreBelow};
+ghost use Rattle.claims_world.specs.Quiet.{IsHeardAbove, ErrorsAreBelow};
+ghost use Rattle.law_reports.specs.quiet.HeardSamples.{lost_below, lost_above, answers_nyet, told_of};
 ghost use Rattle.law_reports.specs.quiet.Samples.{missed_of};
 ghost use Rattle.law_world.specs.memory.Samples.{keyboard, disk};
 
@@ -53,4 +65,46 @@ pub fn a_keyboard_may_miss()
 /// A disk at high speed never does: its line would break the law.
 pub fn a_disk_never_misses()
     ensures { MissesAreBelow (missed_of disk) → ⊥ }
+{}
+
+/// What is known of the bus of a script whose packets there all get through stands before the first line, and after each transaction and
+/// each beginning of a microframe: devices, hubs and endpoints stand where they stood.
+pub fn a_bus_stays_heard()
+    ensures opening { OpeningIsHeard }
+    ensures ask { AskKeepsHeard }
+    ensures begin { BeginKeepsHeard }
+{}
+
+/// Each event leaves errors to the queues of all endpoints at high speed: each transaction of one is heard by its device, and answered as
+/// its kind may.
+pub fn an_event_stays_heard()
+    ensures controller { ControllerKeepsHeard }
+    ensures driver { DriverKeepsHeard }
+{}
+
+/// So it is at each moment of each script whose packets on the high-speed bus all get through, whatever else it opens, cancels and asks.
+pub fn texts_are_heard()
+    ensures { TextsAreHeard }
+{}
+
+/// So each line that tells a halt by errors is of an endpoint below a hub.
+pub fn texts_fail_below()
+    ensures { TextsFailBelow }
+{}
+
+/// A packet that is lost below a hub is none of the high-speed bus.
+pub fn a_loss_below_is_none_above()
+    ensures { IsHeardAbove lost_below }
+{}
+
+/// One that is lost above, or a NYET of an interrupt endpoint there, breaks the premise.
+pub fn a_loss_above_breaks_it()
+    ensures lost { IsHeardAbove lost_above → ⊥ }
+    ensures nyet { IsHeardAbove answers_nyet → ⊥ }
+{}
+
+/// A keyboard below a hub may use up its errors, and a disk at high speed would break the law.
+pub fn a_keyboard_may_fail()
+    ensures keyboard { ErrorsAreBelow (told_of keyboard) }
+    ensures disk { ErrorsAreBelow (told_of disk) → ⊥ }
 {}

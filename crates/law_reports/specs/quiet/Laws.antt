@@ -12,6 +12,7 @@ use Rattle.std.specs.Prelude.{◌≡◌, ◌≢◌, ℕ, Bool, true, false, List
 use Rattle.usb_base.specs.declared.commands.Cmd.{Cmd}
 use Rattle.usb_base.specs.declared.packets.Ask.{Ask}
 use Rattle.usb_base.specs.declared.packets.EpKind.TheVariants.{Iso}
+use Rattle.usb_base.specs.declared.packets.Pid.TheVariants.{Setup}
 use Rattle.usb_base.specs.declared.packets.Reply.{Reply}
 use Rattle.usb_base.specs.declared.packets.Speed.TheVariants.{High}
 use Rattle.usb_base.specs.declared.packets.Split.TheVariants.{Plain}
@@ -20,6 +21,7 @@ use Rattle.script_fits.specs.Fits.{IsFit}
 use Rattle.script_text.specs.Faults.{Spells}
 use Rattle.toggle_error.specs.declared.host.HostSide.{HostSide}
 use Rattle.toggle_error.specs.Settle.{settled}
+use Rattle.hc_copy.specs.Planning.{pid_at}
 use Rattle.bus_wire.specs.Bus.{Fixed}
 use Rattle.drv_table.specs.Offers.{IsOffered}
 use Rattle.law_controller.specs.frame_control.Joined.{joined}
@@ -38,10 +40,11 @@ use Rattle.law_reports.specs.quiet.Replies.{tells}
 -- ---- any queue heads
 
 abbrev pub AnswersCountNone : Type 0
-AnswersCountNone = (Q : Key → Bool) (x : Key) (ask : Ask) (sent : ℕ) (last : Bool) (reply : Reply) (host : HostSide)
+AnswersCountNone = (Q : Key → Bool) (x : Key) (pid : ℕ) (ask : Ask) (sent : ℕ) (last : Bool) (reply : Reply) (host : HostSide)
     → (x.eps ≡ 2 → host.missed ≡ false) → (Q x ≡ true → host.cerr ≢ 0)
     → (Q x ≡ true → (ask.split ≡ Plain) × ((ask.speed ≡ High) × ((ask.kind ≢ Iso) × (tells ask.kind ask.pid reply ≡ true))))
-    → HostHasLeft Q x (settled ask sent last reply host)
+    → (Q x ≡ true → pid_at pid ≡ Setup → (ask.pid ≡ Setup) × ((sent ≡ 8) × (host.left ≡ 8)))
+    → HostHasLeft Q x pid (settled ask sent last reply host)
 
 pub record HasErrorsLeft (Q : Key → Bool) (s : Standing) (w : World) : Type 0 where
   pub parts : (n : ℕ) → PartHasLeft Q n (s.parts n)

@@ -35,7 +35,9 @@ use Rattle.law_world.proofs.lemmas.memory.lemmas.framed_memory.Masking.{new_is_m
 use Rattle.law_world.proofs.lemmas.memory.lemmas.framed_memory.Numbering.{new_is_numbered}
 use Rattle.law_reports.specs.lines.Lined.{in_hand, Lines, IsTelling}
 use Rattle.usb_base.specs.declared.packets.Way.{Way}
-use Rattle.law_reports.specs.pipes.Piped.{Heads, AreLeft}
+use Rattle.bus_wire.specs.Bus.{fixed_of}
+use Rattle.law_reports.specs.pipes.Declared.{sides_of}
+use Rattle.law_reports.specs.pipes.Piped.{Heads, IsPiped, AreLeft}
 use Rattle.law_reports.specs.pipes.PipedLaws.{NewWorldIsPiped}
 use Rattle.law_reports.proofs.lemmas.pipes.NamesKept.{new_descriptors_named}
 
@@ -54,10 +56,10 @@ new_standing = record {
   out = λ n. [];
 }
 
-abbrev no_lines : Lines
+abbrev pub no_lines : Lines
 no_lines = record { acc = λ n. []; reported = λ n. [] }
 
-abbrev no_heads : Heads
+abbrev pub no_heads : Heads
 no_heads = record { ins = λ n. false; outs = λ n. false; ends = λ n. endpoint_of opening_head }
 
 pub new_mixed : (s : Script) → IsFit s → IsByteScript s → IsMixedAt new_standing (opening_world s)
@@ -123,38 +125,37 @@ head_aside takes n on =
     subst (λ (i : ℕ). IsAside takes opening_parts i (endpoint_of opening_head)) (sym (eqb-true n 4096 on))
     (record { queue = opening_head; head = refl; is = refl }, inr sends_none)
 
-pub new_world_is_piped : NewWorldIsPiped
-new_world_is_piped s fit bytes =
+pub new_piped : (s : Script) → IsFit s → IsByteScript s → IsPiped (fixed_of s) (sides_of s) new_standing no_lines no_heads (opening_world s)
+new_piped s fit bytes =
     let f = new_world_feeds s fit in
     record {
-      standing = new_standing;
-      lines = no_lines;
-      heads = no_heads;
-      piped = record {
-        mixed = new_mixed s fit bytes;
-        telling = new_telling s;
-        going = λ e x here iso kept. absurd (nothing_at e x here);
-        declared = λ e y here. absurd (cc);
-        descriptors = new_descriptors_named s;
-        named = λ e y here. absurd (cc);
-        by_way = record { each = λ e y here. absurd (cc); head = (refl, refl) };
-        pipes = record {
-          in_ends = f.working.streaming.ends;
-          in_pipes = f.working.streaming.piped;
-          out_ends = record {
-            members = λ n on. absurd (false≢true on);
-            on = λ n on. absurd (false≢true on);
-            high = λ n on. absurd (false≢true on);
-            apart = λ n i on. absurd (false≢true on);
-          };
-          out_pipes = record { pipes = λ n on. absurd (false≢true on); others = λ n on off. head_aside (takes_of s) n on };
+      mixed = new_mixed s fit bytes;
+      telling = new_telling s;
+      going = λ e x here iso kept. absurd (nothing_at e x here);
+      declared = λ e y here. absurd (cc);
+      descriptors = new_descriptors_named s;
+      named = λ e y here. absurd (cc);
+      by_way = record { each = λ e y here. absurd (cc); head = (refl, refl) };
+      pipes = record {
+        in_ends = f.working.streaming.ends;
+        in_pipes = f.working.streaming.piped;
+        out_ends = record {
+          members = λ n on. absurd (false≢true on);
+          on = λ n on. absurd (false≢true on);
+          high = λ n on. absurd (false≢true on);
+          apart = λ n i on. absurd (false≢true on);
         };
-        new_heads = λ e y here. absurd (cc);
-        fresh_ins = λ addr ep on unused. f.unopened addr ep on (λ n is. absurd (false≢true is));
-        fresh_outs = λ addr ep on unused.
-            opening_is_untaken s (λ n. false) (λ n. endpoint_of opening_head) addr ep on (λ n is. absurd (false≢true is));
+        out_pipes = record { pipes = λ n on. absurd (false≢true on); others = λ n on off. head_aside (takes_of s) n on };
       };
+      new_heads = λ e y here. absurd (cc);
+      fresh_ins = λ addr ep on unused. f.unopened addr ep on (λ n is. absurd (false≢true is));
+      fresh_outs = λ addr ep on unused.
+          opening_is_untaken s (λ n. false) (λ n. endpoint_of opening_head) addr ep on (λ n is. absurd (false≢true is));
     }
+
+pub new_world_is_piped : NewWorldIsPiped
+new_world_is_piped s fit bytes =
+    record { standing = new_standing; lines = no_lines; heads = no_heads; piped = new_piped s fit bytes }
 
 -- none left yet
 pub none_left : (s : Script) (acc : ℕ → List (List ℕ)) (way : Way) (has : ℕ → ℕ → Bool) (P : ℕ → ℕ → List ℕ → Type 0)

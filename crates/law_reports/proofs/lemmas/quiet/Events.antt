@@ -53,18 +53,19 @@ advanced_key q a t = refl
 
 advanced_token : (Q : Key → Bool) (x : Key) (q : Qh) (a : ℕ) (t : Qtd) → TokenHasLeft Q x t.token → TokenHasLeft Q x (advanced q a t).token
 unfolding advanced
-advanced_token Q x q a t k = record { met = k.met; going = k.going; stopped = k.stopped }
+advanced_token Q x q a t k = record { met = k.met; going = k.going; stopped = k.stopped; setup = k.setup }
 
 -- the queue head that a write-back leaves
-ring_back : (Q : Key → Bool) (x : Key) (c : Copy) (z : Settlement) (n : ℕ) → HostHasLeft Q x z.host
+ring_back : (Q : Key → Bool) (x : Key) (c : Copy) (z : Settlement) (n : ℕ) → HostHasLeft Q x c.queue.token.pid z.host
     → TokenHasLeft Q x (moved (settled_queue_of c z) n).token
 unfolding moved settled_queue
-ring_back Q x c z n k = record { met = k.met; going = k.going; stopped = k.stopped }
+ring_back Q x c z n k = record { met = k.met; going = k.going; stopped = k.stopped; setup = k.setup }
 
-frame_back : (Q : Key → Bool) (x : Key) (c : Copy) (z : QueueSettlement) (n : ℕ) → HostHasLeft Q x z.host
+frame_back : (Q : Key → Bool) (x : Key) (c : Copy) (z : QueueSettlement) (n : ℕ)
+    → HostHasLeft Q x c.queue.token.pid z.host
     → TokenHasLeft Q x (moved (settled_in c z) n).token
 unfolding moved settled_queue
-frame_back Q x c z n k = record { met = k.met; going = k.going; stopped = k.stopped }
+frame_back Q x c z n k = record { met = k.met; going = k.going; stopped = k.stopped; setup = k.setup }
 
 ring_key : (c : Copy) (z : Settlement) (n : ℕ) → key_of (relinked c.queue (moved (settled_queue_of c z) n)) ≡ key_of c.queue
 unfolding moved settled_queue
@@ -127,13 +128,13 @@ module _ (Q : Key → Bool) where
       let key = advanced_key c.queue t.element t.qtd in
       let was : TokenHasLeft Q (key_of (advanced c.queue t.element t.qtd)) t.qtd.token =
       token_as Q (key_of c.queue) (key_of (advanced c.queue t.element t.qtd)) t.qtd.token.missed t.qtd.token.active t.qtd.token.halted
-      t.qtd.token.cerr key
+      t.qtd.token.cerr t.qtd.token.pid t.qtd.token.total key
       (own.elements c.queue t.element t.qtd here t.here) in
       subst (λ (ps : StructureSets). PartHasLeft Q n (ps n)) (sym t.now_is)
       (head_put Q parts c.at c.at (advanced c.queue t.element t.qtd)
       (advanced_token Q (key_of (advanced c.queue t.element t.qtd)) c.queue t.element t.qtd was)
       (λ u b there. token_as Q (key_of c.queue) (key_of (advanced c.queue t.element t.qtd)) u.token.missed u.token.active u.token.halted
-      u.token.cerr key
+      u.token.cerr u.token.pid u.token.total key
       (own.elements c.queue b u here there)) n (k n))
 
   -- ---- a write-back
@@ -151,8 +152,9 @@ module _ (Q : Key → Bool) where
       let old : TokenHasLeft Q (key_of c.queue) t.token = own.elements c.queue c.queue.current t here there in
       let first : (m : ℕ) → PartHasLeft Q m (two m) = λ m.
       head_put Q one c.at c.at head (token_as Q (key_of c.queue)
-      (key_of head) q.token.missed q.token.active q.token.halted q.token.cerr key new)
-      (λ u b found. token_as Q (key_of c.queue) (key_of head) u.token.missed u.token.active u.token.halted u.token.cerr key
+      (key_of head) q.token.missed q.token.active q.token.halted q.token.cerr q.token.pid q.token.total key new)
+      (λ u b found. token_as Q (key_of c.queue) (key_of head) u.token.missed u.token.active u.token.halted u.token.cerr
+      u.token.pid u.token.total key
       (own.elements c.queue b u here (received_element parts c.at got r b u found))) m
       (received_left parts c.at got r m (k m)) in
       let last = after_left (key_of c.queue) q t q.token.active new old in
@@ -161,7 +163,8 @@ module _ (Q : Key → Bool) where
       (λ r here_now.
       let same : r ≡ head = same_queue r head (same_Some (QueueHead r) (QueueHead head) (sym here_now ∙ put_same one c.at c.at
       (QueueHead head))) in
-      token_as Q (key_of c.queue) (key_of r) left.token.missed left.token.active left.token.halted left.token.cerr (ap key_of same
+      token_as Q (key_of c.queue) (key_of r) left.token.missed left.token.active left.token.halted left.token.cerr
+      left.token.pid left.token.total (ap key_of same
       ∙ key) last)
       n (first n)
 
@@ -170,7 +173,7 @@ module _ (Q : Key → Bool) where
   module _ {W : Type 0} (transacts : W → Ask → List ℕ → Reply → W → Type 0) (member : ℕ → Bool) (parts : StructureSets) (hand : Hand)
       (wire after : W) (now : StructureSets) (later : Hand) (reply : Reply) (in_hand : IsInHand member parts reply hand)
       (answers : (m : Makes transacts parts hand wire after later) → parts m.copy.at m.copy.at ≡ Some (QueueHead m.copy.queue)
-      → HostHasLeft Q (key_of m.copy.queue) (settlement m.copy.queue m.out m.reply).host) where
+      → HostHasLeft Q (key_of m.copy.queue) m.copy.queue.token.pid (settlement m.copy.queue m.out m.reply).host) where
     pub ring_parts : (kind : WalkStep) → Effect transacts parts hand wire after now later kind → HandHasLeft Q hand
         → ((n : ℕ) → PartHasLeft Q n (parts n)) → (n : ℕ) → PartHasLeft Q n (now n)
     ring_parts kind (ring_reads r same quiet) had k n = subst (λ (ps : StructureSets). PartHasLeft Q n (ps n)) (sym same) (k n)
@@ -184,7 +187,7 @@ module _ (Q : Key → Bool) where
         let c = w.copy in
         let copied : IsCopied member parts w.copy × IsSettled w.copy.queue reply w.settled = subst
         (IsInHand member parts reply) w.in_hand in_hand in
-        let host : HostHasLeft Q (key_of c.queue) w.settled.host = subst (HandHasLeft Q) w.in_hand had in
+        let host : HostHasLeft Q (key_of c.queue) c.queue.token.pid w.settled.host = subst (HandHasLeft Q) w.in_hand had in
         subst (λ (ps : StructureSets). PartHasLeft Q n (ps n)) (sym w.now_is)
         (back_parts parts c (settled_queue_of c w.settled) (moved_by w.settled.outcome) w.settled.got
         (received_into (parts c.at) c.queue w.element w.settled.got) w.element copied.0.here w.here
@@ -221,8 +224,8 @@ module _ (Q : Key → Bool) where
   module _ {W : Type 0} (transacts : W → Ask → List ℕ → Reply → W → Type 0) (high : (x : Key) → Q x ≡ true → x.eps ≡ 2)
       (met : ℕ → Option Kind) (parts : StructureSets) (w : Walk) (frame : FrameHand)
       (wire after : W) (now : StructureSets) (later : FrameHand) (in_hand : IsInFrame met parts w.got w.reply frame)
-      (answers : (m : MakesOfQueue transacts parts w frame wire after later) → parts m.copy.at m.copy.at ≡ Some (QueueHead m.copy.queue)
-      → HostHasLeft Q (key_of m.copy.queue) (frame_settlement w.index m.copy.queue m.out m.reply).host) where
+      (answers : (m : MakesOfQueue transacts parts w frame wire after later) → IsCopiedQueue met parts m.copy
+      → HostHasLeft Q (key_of m.copy.queue) m.copy.queue.token.pid (frame_settlement w.index m.copy.queue m.out m.reply).host) where
     abbrev FrameHas : FrameHand → Type 0
     FrameHas h = HandHasLeft Q (joined Empty h)
 
@@ -235,12 +238,13 @@ module _ (Q : Key → Bool) where
       from_here (was_missed is turn settled) =
           let copied : IsCopiedQueue met parts v.copy = subst (IsInFrame met parts w.got w.reply) is in_hand in copied.here
 
-      from_host : IsSettledFrom w frame v.copy v.settled v.made → HostHasLeft Q (key_of v.copy.queue) v.settled.host
+      from_host : IsSettledFrom w frame v.copy v.settled v.made → HostHasLeft Q (key_of v.copy.queue) v.copy.queue.token.pid v.settled.host
       from_host (was_worked is) = subst FrameHas is had
       from_host (was_missed is turn settled) = record {
         met = λ fast. absurd (misses_below w.index v.copy.queue turn fast);
         going = λ on act. absurd (misses_below w.index v.copy.queue turn (high (key_of v.copy.queue) on));
         stopped = λ on act. absurd (misses_below w.index v.copy.queue turn (high (key_of v.copy.queue) on));
+        setup = λ on pid act. absurd (misses_below w.index v.copy.queue turn (high (key_of v.copy.queue) on));
       }
 
       queue_parts : ((n : ℕ) → PartHasLeft Q n (parts n)) → (n : ℕ) → PartHasLeft Q n (now n)
@@ -293,7 +297,7 @@ module _ (Q : Key → Bool) where
     frame_hand kind (frame_takes t quiet) = subst FrameHas (sym t.later_is) tt
     frame_hand kind (frame_makes (make_queue m) same) =
         let copied : IsCopiedQueue met parts m.copy = subst (IsInFrame met parts w.got w.reply) m.in_hand in_hand in
-        subst FrameHas (sym m.later_is) (answers m copied.here)
+        subst FrameHas (sym m.later_is) (answers m copied)
     frame_hand kind (frame_makes (make_itd m) same) = subst FrameHas (sym m.later_is) tt
     frame_hand kind (frame_makes (make_sitd m) same) = subst FrameHas (sym m.later_is) tt
     frame_hand kind (frame_writes (write_queue v) quiet) = subst FrameHas (sym v.later_is) (after_has _ _ _)

@@ -1,5 +1,6 @@
 -- What the host makes of a reply: no row sets the bit of a missed microframe, and only one that counts an error changes the count.
-use Rattle.std.proofs.Common.{◌≡◌, ◌≢◌, ℕ, nat_le, Bool, true, false, if◌then◌else◌, List, length, ap, refl, sym, ◌∙◌}
+use Rattle.std.proofs.Common.{◌≡◌, ◌≢◌, ℕ, ◌-◌, nat_le, ◌==◌, Bool, true, false, not, ◌&&◌, if◌then◌else◌, List, length, ap, refl, sym, ◌∙◌}
+use Rattle.std.proofs.lemmas.Bool.{false≢true}
 use Rattle.usb_base.specs.declared.packets.Ask.{Ask}
 use Rattle.usb_base.specs.declared.packets.EpKind.{EpKind}
 use Rattle.usb_base.specs.declared.packets.EpKind.TheVariants as kinds
@@ -28,6 +29,7 @@ use Rattle.toggle_error.specs.Columns.{limit_of, fitting, heard_data, heard_hand
 use Rattle.toggle_error.specs.PlainRows.{plain_row, after_plain}
 use Rattle.toggle_error.specs.SplitRows.{after_start, after_complete}
 use Rattle.toggle_error.specs.Settle.{row_at, settle_row, after_settle_row, settled}
+use Rattle.hc_copy.specs.Planning.{pid_at}
 use Rattle.law_reports.specs.quiet.Errors.{Key, HasLeft, HostHasLeft}
 use Rattle.law_reports.specs.quiet.Replies.{is_data, tells}
 
@@ -131,12 +133,30 @@ pid_counts kind _ host replies.Silent sent some is = absurd (cc)
 pid_counts kind _ host (replies.Bytes pid bytes) sent some is = absurd (cc)
 pid_counts kind _ host (replies.Hand pid) sent some is = absurd (cc)
 
+-- ---- a SETUP
+
+-- one that was taken leaves nothing, and else it is whole, or over
+setup_by : (heard : Heard) (host : HostSide) → host.left ≡ 8 → (after_plain (plain_row tokens.Setup heard 8) host).active ≡ true
+    → (after_plain (plain_row tokens.Setup heard 8) host).left ≡ 8
+setup_by heards.Ack host whole active = absurd (done host.left whole active)
+  where
+    done : (n : ℕ) → n ≡ 8 → (not (n - 8 == 0) && host.active) ≡ true → ⊥
+    done n is on = no_more (sym (ap (λ (k : ℕ). not (k - 8 == 0) && host.active) is) ∙ on)
+      where
+        no_more : (not (8 - 8 == 0) && host.active) ≡ true → ⊥
+        no_more e = cc
+setup_by heards.Stall host whole active = absurd (false≢true active)
+setup_by (heards.Fitting n) host whole active = whole
+setup_by heards.TooLong host whole active = whole
+setup_by heards.Repeat host whole active = whole
+setup_by heards.Nak host whole active = whole
+setup_by heards.Nyet host whole active = whole
+setup_by heards.Err host whole active = whole
+setup_by heards.Nothing host whole active = whole
+
 -- ---- a transaction
 
-module _ (Q : Key → Bool) (x : Key) (ask : Ask) (sent : ℕ) (last : Bool) (reply : Reply) (host : HostSide) where
-  row : Split → SettleRow
-  row s = row_at s ask.kind last (heard_of host reply) (plain_row (token_of ask) (heard_of host reply) sent)
-
+module _ (Q : Key → Bool) (x : Key) (pid : ℕ) (ask : Ask) (sent : ℕ) (last : Bool) (reply : Reply) (host : HostSide) where
   plain_is : ask.split ≡ splits.Plain → ask.speed ≡ High → ask.kind ≢ kinds.Iso → tells ask.kind ask.pid reply ≡ true
       → (settled ask sent last reply host).cerr ≡ host.cerr
   plain_is plain high some is =
@@ -146,12 +166,26 @@ module _ (Q : Key → Bool) (x : Key) (ask : Ask) (sent : ℕ) (last : Bool) (re
       (ap (λ (v : Speed). counts (plain_row (token_at ask.pid (out_token v ask.kind)) (heard_of host reply) sent)) high
       ∙ pid_counts ask.kind ask.pid host reply sent some is)
 
+  setup_is : ask.split ≡ splits.Plain → ask.pid ≡ pids.Setup → sent ≡ 8
+      → settled ask sent last reply host ≡ after_plain (plain_row tokens.Setup (heard_of host reply) 8) host
+  setup_is plain token whole =
+      ap (λ (s : Split). after_settle_row (row_at s ask.kind last (heard_of host reply) (plain_row (token_of ask)
+      (heard_of host reply) sent)) host) plain
+      ∙ ap (λ (v : Pid). after_plain (plain_row (token_at v (out_token ask.speed ask.kind)) (heard_of host reply) sent) host) token
+      ∙ ap (λ (n : ℕ). after_plain (plain_row tokens.Setup (heard_of host reply) n) host) whole
+
   -- what an active side is left as
   pub answers_count_none : (x.eps ≡ 2 → host.missed ≡ false) → (Q x ≡ true → host.cerr ≢ 0)
       → (Q x ≡ true → (ask.split ≡ splits.Plain) × ((ask.speed ≡ High) × ((ask.kind ≢ kinds.Iso) × (tells ask.kind ask.pid reply ≡ true))))
-      → HostHasLeft Q x (settled ask sent last reply host)
-  answers_count_none met some told = record {
+      → (Q x ≡ true → pid_at pid ≡ pids.Setup → (ask.pid ≡ pids.Setup) × ((sent ≡ 8) × (host.left ≡ 8)))
+      → HostHasLeft Q x pid (settled ask sent last reply host)
+  answers_count_none met some told whole = record {
     met = λ high. row_missed (settle_row ask sent last reply host) host ∙ met high;
     going = λ on act none. some on (sym (plain_is (told on).0 (told on).1.0 (told on).1.1.0 (told on).1.1.1) ∙ none);
     stopped = λ on act none. some on (sym (plain_is (told on).0 (told on).1.0 (told on).1.1.0 (told on).1.1.1) ∙ none);
+    setup = λ on token act.
+        let w = whole on token in
+        let is = setup_is (told on).0 w.0 w.1.0 in
+        ap (λ (z : HostSide). z.left) is
+        ∙ setup_by (heard_of host reply) host w.1.1 (ap (λ (z : HostSide). z.active) (sym is) ∙ act);
   }

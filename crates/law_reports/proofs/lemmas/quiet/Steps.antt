@@ -40,7 +40,13 @@ use Rattle.law_frames.specs.FrameHand.{FrameHand, OfQueue, OfSettled, OfItd, OfS
 use Rattle.law_frames.specs.FrameHand.FrameHand.{Nothing as NoneHeld}
 use Rattle.law_controller.specs.frame_control.Joined.{joined}
 use Rattle.law_controller.specs.frame_stores.Stores.{frame_linked}
-use Rattle.law_driver_ring.specs.Pieces.{stage_qtd, IsNewQtd}
+use Rattle.law_driver_ring.specs.Pieces.{stage_qtd}
+use Rattle.law_driver_ring.specs.TransferLaws.{items_of, lent_memory}
+use Rattle.law_driver_ring.proofs.Lots.{IsItem, all_found}
+use Rattle.law_ring.specs.Together.{Item}
+use Rattle.hc_copy.specs.Planning.{pid_at}
+use Rattle.usb_base.specs.declared.packets.Pid.TheVariants.{Setup}
+use Rattle.law_reports.proofs.lemmas.quiet.Setups.{IsWholeSetup, stages_whole, items_are, items_no_head}
 use Rattle.law_driver_ring.specs.Published.{partly}
 use Rattle.law_driver_ring.specs.Released.{goes_of}
 use Rattle.law_driver_ring.specs.fed_queues.Fed.{IsPublished}
@@ -109,32 +115,30 @@ module _ (Q : Key → Bool) where
     going = λ on act. absurd (true≢false (sym act));
     stopped = λ on act. absurd (true≢false
         (sym act));
+    setup = λ on pid act. absurd (true≢false (sym act));
   }
 
-  stage_left : (x : Key) (notes : List QtdNote) (s : Stage) (b dummy : ℕ) (last : Bool)
+  stage_left : (x : Key) (notes : List QtdNote) (s : Stage) (b dummy : ℕ) (last : Bool) → IsWholeSetup s
       → TokenHasLeft Q x (stage_qtd notes s b dummy last).token
-  stage_left x notes s b dummy last = record {
+  stage_left x notes s b dummy last whole = record {
     met = λ high. refl;
     going = λ on act none. three none;
     stopped = λ on act. absurd
         (true≢false (sym act));
+    setup = λ on pid act. whole pid;
   }
     where
       three : ◌≡◌ {A = ℕ} 3 0 → ⊥
       three e = cc
-
-  new_left : (x : Key) (notes : List QtdNote) (dummy : ℕ) (ss : List Stage) (b a : ℕ) (u : Qtd) → IsNewQtd notes dummy ss b a u
-      → TokenHasLeft Q x u.token
-  new_left x notes dummy [] b a u new = subst (λ (t : Qtd). TokenHasLeft Q x t.token) (sym new.1) (idle_left x)
-  new_left x notes dummy (s ∷ ss) b a u (inl new) =
-      subst (λ (t : Qtd). TokenHasLeft Q x t.token) (sym new.1) (stage_left x notes s b dummy (is_last ss))
-  new_left x notes dummy (s ∷ ss) b a u (inr new) = new_left x notes dummy ss (note_at notes b).next a u new
 
   partly_left : (x : Key) (t : Qtd) (k : ℕ) → TokenHasLeft Q x t.token → TokenHasLeft Q x (partly t k).token
   partly_left x t (suc (suc (suc (suc (suc (suc (suc (suc k)))))))) new = new
   partly_left x t _ new = idle_left x
 
 -- ---- the command that is unfinished
+
+abbrev IsFirst : Qtd → Type 0
+IsFirst t = (t.token.missed ≡ false) × ((t.token.halted ≡ false) × ((t.token.cerr ≢ 0) × (pid_at t.token.pid ≡ Setup → t.token.total ≡ 8)))
 
 abbrev publishes : Option Command → Bool
 publishes (Some (unfinished.Publish b words)) = true
@@ -152,16 +156,16 @@ none_left made None none = tt
 module _ (s : Standing) (w : World) (mixed : IsMixedAt s w) where
   -- the first qTD of what is to be lent is a new one
   lent_left : (b : ℕ) (words : List ℕ) → IsToBeLent (queued w.driver) w.memory b words → (t : Qtd) → words ≡ qtd_words t → IsQtdInRange t
-      → (t.token.missed ≡ false) × ((t.token.halted ≡ false) × (t.token.cerr ≢ 0))
+      → IsFirst t
   lent_left b words get t is range =
       let d = queued w.driver in
       let sound = mixed.now.framed.place.sound in
       let setup : Qtd = stage_qtd d.notes get.stage get.transfer.first get.endpoint.dummy (is_last get.further) in
-      subst (λ (u : Qtd). (u.token.missed ≡ false) × ((u.token.halted ≡ false) × (u.token.cerr ≢ 0)))
+      subst IsFirst
       (sym (one_qtd t setup range (ranged d w.memory sound.stands sound.shape get.stage get.transfer.first get.endpoint.dummy
       (is_last get.further)
       get.awaits.pids.0 get.awaits.short.0 get.awaits.noted.0) (sym is ∙ get.are)))
-      (refl, (refl, λ none. three none))
+      (refl, (refl, (λ none. three none, λ pid. (stages_whole get.endpoint.desc.name.way (get.stage ∷ get.further) get.stages).0 pid)))
     where
       three : ◌≡◌ {A = ℕ} 3 0 → ⊥
       three e = cc
@@ -251,49 +255,39 @@ module _ (Q : Key → Bool) (s : Standing) (w : World) (mixed : IsMixedAt s w) (
 
   -- ---- a transfer is lent
 
-  module _ (b : ℕ) (words : List ℕ) (get : IsToBeLent (queued w.driver) w.memory b words) (order : ℕ → ℕ → ℕ) (out : ℕ → List ℕ)
-      (h : HasBehind s w b words get order out) where
+  module _ (b : ℕ) (words : List ℕ) (get : IsToBeLent (queued w.driver) w.memory b words) where
     abbrev d : DriverContent
     d = queued w.driver
 
-    transfer_is : h.behind.transfer ≡ runs_of_transfer get.transfer
-    transfer_is = same_Some h.behind.transfer (runs_of_transfer get.transfer)
-        (sym h.behind.awaits.here.here
-        ∙ ap (views_of d).transfer (let one = h.behind.newest in let two = get.newest in
-        let same : h.behind.number ≡ get.number = omega (arith, one, two) in same) ∙ ap (option_map runs_of_transfer) get.there)
+    abbrev own : ℕ
+    own = 32 * get.endpoint.queue
 
-    queue_is : 32 * h.behind.endpoint.queue ≡ 32 * get.endpoint.queue
-    queue_is = ap (λ (r : EndpointRuns). 32 * r.queue)
-        (same_Some h.behind.endpoint (runs_of_endpoint get.endpoint)
-        (sym h.behind.awaits.here.queue.here ∙ ap (λ (r : TransferRuns). (views_of d).endpoint r.endpoint) transfer_is
-        ∙ ap (option_map runs_of_endpoint) get.here))
+    abbrev items : List Item
+    items = items_of (queued w.driver) w.memory (runs_of_transfer get.transfer) (runs_of_endpoint get.endpoint) get.stage get.further
 
-    part : IsQueuePart (32 * h.behind.endpoint.queue) (s.parts (32 * h.behind.endpoint.queue))
-    part = subst (λ (i : ℕ). IsQueuePart i (s.parts i)) (sym queue_is)
-        (mixed.queues.sound get.transfer.endpoint get.endpoint get.here
-        (it_is_met (queued w.driver) w.memory b words mixed.turns.turns.asynchronous get))
+    item_left : (x : Key) (a : ℕ) (u : Qtd) → IsItem items a (Element u) → TokenHasLeft Q x u.token
+    item_left x a u there =
+        items_are (λ (t : Qtd). TokenHasLeft Q x t.token) d.notes get.endpoint.dummy (idle_left Q x)
+        (λ z c last whole. stage_left Q x d.notes z c get.endpoint.dummy last whole) (lent_memory (queued w.driver) w.memory) get.stage
+        get.further get.transfer.first a u
+        (stages_whole get.endpoint.desc.name.way (get.stage ∷ get.further) get.stages).1 there
 
-    lent_own : PartHasLeft Q (32 * h.behind.endpoint.queue) (parts_with get s.parts (32 * h.behind.endpoint.queue))
-    lent_own =
-        let n = 32 * h.behind.endpoint.queue in
-        let was : (q : Qh) → parts_with get s.parts n n ≡ Some (QueueHead q) → s.parts n n ≡ Some (QueueHead q) = λ q here.
-        subst (λ (r : Qh). s.parts n n ≡ Some (QueueHead r))
-        (found_queue (parts_with get s.parts n n) part.queue q (h.still n n (QueueHead part.queue) part.here) here) part.here in
-        record {
-          head = λ q here. (k n).head q (was q here);
-          elements = λ q a u here there.
-              ⊎_elim (λ (old : s.parts n a ≡ Some (Element u)). (k n).elements q a u (was q here) old)
-              (λ (new : IsNewQtd d.notes h.behind.endpoint.dummy h.behind.further (note_at d.notes h.behind.transfer.first).next a u).
-              new_left Q (key_of q) d.notes h.behind.endpoint.dummy h.behind.further (note_at d.notes h.behind.transfer.first).next a u new)
-              (h.behind.pieces.elements a u there);
-        }
+    head_was : (n : ℕ) (q : Qh) → parts_with get s.parts n n ≡ Some (QueueHead q) → s.parts n n ≡ Some (QueueHead q)
+    head_was n q here =
+        ⊎_elim (λ (new : (n ≡ own) × IsItem items n (QueueHead q)).
+        absurd (items_no_head d.notes get.endpoint.dummy
+        (lent_memory (queued w.driver) w.memory) get.stage get.further get.transfer.first n q
+        new.1))
+        (λ (old : s.parts n n ≡ Some (QueueHead q)). old) (all_found s.parts own items n n (QueueHead q) here)
 
     lent_parts : (n : ℕ) → PartHasLeft Q n (parts_with get s.parts n)
-    lent_parts n =
-        ⊎_elim (λ (same : n ≡ 32 * h.behind.endpoint.queue). subst (λ (i : ℕ). PartHasLeft Q i (parts_with get s.parts i))
-        (sym same) lent_own)
-        (λ (differs : n ≢ 32 * h.behind.endpoint.queue). subst (PartHasLeft Q n) (sym (h.behind.pieces.beside n differs)) (k n))
-        (cases_eq n (32 * h.behind.endpoint.queue))
+    lent_parts n = record {
+      head = λ q here. (k n).head q (head_was n q here);
+      elements = λ q a u here there.
+          ⊎_elim (λ (new : (n ≡ own) × IsItem items a (Element u)). item_left (key_of q) a u new.1)
+          (λ (old : s.parts n a ≡ Some (Element u)). (k n).elements q a u (head_was n q here) old)
+          (all_found s.parts own items n a (Element u) there);
+    }
 
   -- ---- an endpoint's structures are lent
 
@@ -308,6 +302,7 @@ module _ (Q : Key → Bool) (s : Standing) (w : World) (mixed : IsMixedAt s w) (
         met = λ high. ap (λ (q : Qh). q.token.missed) is ∙ r.fresh.0;
         going = λ on act. absurd (true≢false (sym act ∙ at.rests.idle));
         stopped = λ on act. absurd (true≢false (sym act ∙ ap (λ (q : Qh). q.token.halted) is ∙ r.fresh.1));
+        setup = λ on pid act. absurd (true≢false (sym act ∙ at.rests.idle));
       } in
       element_put Q (put s.parts m m (QueueHead at.queue)) m (32 * at.endpoint.dummy) dummy_qtd (λ q here. idle_left Q (key_of q)) n
       (head_put Q s.parts m m at.queue new (λ t b here. absurd (nothing t (sym (blank b) ∙ here))) n (k n))
@@ -345,7 +340,7 @@ module _ (Q : Key → Bool) (s : Standing) (w : World) (mixed : IsMixedAt s w) (
       (is : IsNextStore s w new b words g) where
     first_by : (c : Option Command) → queued_command w.driver.endpoints c ≡ Some (unfinished.Publish b words)
         → 1 ≤ queued_made c w.driver.made → PublishesLeft w.driver.made c
-        → (g.qtd.token.missed ≡ false) × ((g.qtd.token.halted ≡ false) × (g.qtd.token.cerr ≢ 0))
+        → IsFirst g.qtd
     first_by (Some (unfinished.Publish c others)) same some old = old some g.qtd (its_words c others same ∙ g.are) g.range
       where
         its_words : (c : ℕ) (others : List ℕ) → ◌≡◌ {A = Option Command} (Some (unfinished.Publish c others)) (Some
@@ -363,7 +358,12 @@ module _ (Q : Key → Bool) (s : Standing) (w : World) (mixed : IsMixedAt s w) (
         let f = first_by w.driver.command is.command is.made first in
         element_put Q s.parts (32 * g.endpoint.queue) (32 * b) (partly g.qtd (queued w.driver).made)
         (λ q here. partly_left Q (key_of q) g.qtd (queued w.driver).made
-        (record { met = λ high. f.0; going = λ on act. f.1.1; stopped = λ on act. absurd (true≢false (sym act ∙ f.1.0)) })) n (k n)
+        (record {
+          met = λ high. f.0;
+          going = λ on act. f.1.1.0;
+          stopped = λ on act. absurd (true≢false (sym act ∙ f.1.0));
+          setup = λ on pid act. f.1.1.1 pid;
+        })) n (k n)
 
   -- ---- a step
 
@@ -372,7 +372,7 @@ module _ (Q : Key → Bool) (s : Standing) (w : World) (mixed : IsMixedAt s w) (
   step_parts new t first (stays _ none still) n = told_parts_left t still.told n
   step_parts new _ first (harvests e u found due later row after) n = k n
   step_parts new _ first (returns u y x row r) n = without_left Q s.parts (32 * x.queue) (goes_of w.driver y) n (k n)
-  step_parts new _ first (lends b words get order out row behind) n = lent_parts b words get order out behind n
+  step_parts new _ first (lends b words get order out row behind) n = lent_parts b words get n
   step_parts new _ first (stores b words g is) n = stored_parts_left new b words g is first n
   step_parts new _ first (mends at row) n = mended_parts at n
   step_parts new _ first (begins at row alike) n = begun_parts at n

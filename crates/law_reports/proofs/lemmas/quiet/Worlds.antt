@@ -19,6 +19,7 @@ use Rattle.claims_driver.specs.Owners.{views_of}
 use Rattle.law_structures.specs.lent_structures.Structures.{QueueHead, Element, Table, Structures, StructureSets}
 use Rattle.law_ring.specs.Hand.{Hand, Empty}
 use Rattle.law_ring.specs.Effects.{settlement, Makes}
+use Rattle.law_frames.specs.Frame.{IsCopiedQueue}
 use Rattle.law_frames.specs.FrameHand.{FrameHand}
 use Rattle.law_frames.specs.FrameHand.FrameHand.{Nothing as NoneHeld}
 use Rattle.law_frames.specs.FrameEffects.{frame_settlement, MakesOfQueue}
@@ -85,7 +86,7 @@ module _ (Q : Key → Bool) (high : (x : Key) → Q x ≡ true → x.eps ≡ 2) 
   runs : RunsBoth opening_base s.member (met w.driver s.recent) (both s.descs s.parts) s.hand s.frame (controller_parts w)
   runs = mixed.now.framed.runs
 
-  off : (n : ℕ) (q : Qh) → both s.descs s.parts n n ≡ Some (QueueHead q) → both s.descs s.parts n ≡ s.parts n
+  pub off : (n : ℕ) (q : Qh) → both s.descs s.parts n n ≡ Some (QueueHead q) → both s.descs s.parts n ≡ s.parts n
   off n q here =
       both_off s.descs s.parts n (other_off (views_of w.driver) s.descs s.parts n (QueueHead q) (describes s w mixed).described refl here)
 
@@ -97,13 +98,15 @@ module _ (Q : Key → Bool) (high : (x : Key) → Q x ≡ true → x.eps ≡ 2) 
         (ap (λ (part : Structures). part b) (sym (off n q here)) ∙ there);
   }
 
-  module _ (rings : (m : Makes transacts_by (both s.descs s.parts) s.hand (wired fixed w) (wired fixed (controller_next fixed w)) a.later)
+  module _ (rings : s.frame ≡ NoneHeld
+      → (m : Makes transacts_by (both s.descs s.parts) s.hand (wired fixed w) (wired fixed (controller_next fixed w)) a.later)
       → both s.descs s.parts m.copy.at m.copy.at ≡ Some (QueueHead m.copy.queue)
-      → HostHasLeft Q (key_of m.copy.queue) (settlement m.copy.queue m.out m.reply).host)
-      (frames : (m : MakesOfQueue transacts_by (both s.descs s.parts) w.control.frame s.frame (wired fixed w) (wired fixed
+      → HostHasLeft Q (key_of m.copy.queue) m.copy.queue.token.pid (settlement m.copy.queue m.out m.reply).host)
+      (frames : s.hand ≡ Empty → (m : MakesOfQueue transacts_by (both s.descs s.parts) w.control.frame s.frame (wired fixed w) (wired fixed
       (controller_next fixed w)) a.frame_later)
-      → both s.descs s.parts m.copy.at m.copy.at ≡ Some (QueueHead m.copy.queue)
-      → HostHasLeft Q (key_of m.copy.queue) (frame_settlement w.control.frame.index m.copy.queue m.out m.reply).host) where
+      → IsCopiedQueue (met w.driver s.recent) (both s.descs s.parts) m.copy
+      → HostHasLeft Q (key_of m.copy.queue) m.copy.queue.token.pid
+      (frame_settlement w.control.frame.index m.copy.queue m.out m.reply).host) where
     had_ring : s.frame ≡ NoneHeld → HandHasLeft Q s.hand
     had_ring none = subst (λ (f : FrameHand). HandHasLeft Q (joined s.hand f)) none k.in_hand
 
@@ -117,10 +120,10 @@ module _ (Q : Key → Bool) (high : (x : Key) → Q x ≡ true → x.eps ≡ 2) 
     then_parts (of_ring (a_step v) nothing) n =
         ring_parts Q transacts_by s.member (both s.descs s.parts) s.hand (wired fixed w) (wired fixed
         (controller_next fixed w)) a.now a.later
-        (walk_place (controller_parts w)).walk.reply runs.ring.in_hand rings v.kind v.effect (had_ring nothing.0) both_left n
+        (walk_place (controller_parts w)).walk.reply runs.ring.in_hand (rings nothing.0) v.kind v.effect (had_ring nothing.0) both_left n
     then_parts (of_frame v) n =
         frame_parts Q transacts_by high (met w.driver s.recent) (both s.descs s.parts) w.control.frame s.frame (wired fixed w)
-        (wired fixed (controller_next fixed w)) a.now a.frame_later (runs.walk v.part).in_hand frames v.kind v.effect
+        (wired fixed (controller_next fixed w)) a.now a.frame_later (runs.walk v.part).in_hand (frames v.nothing) v.kind v.effect
         (had_frame v.nothing) both_left n
 
     then_hand : BothEffect begins_by transacts_by (both s.descs s.parts) w.control s.hand s.frame (wired fixed w)
@@ -132,11 +135,11 @@ module _ (Q : Key → Bool) (high : (x : Key) → Q x ≡ true → x.eps ≡ 2) 
         subst (λ (f : FrameHand). HandHasLeft Q (joined a.later f)) (sym nothing.1)
         (ring_hand Q transacts_by s.member (both s.descs s.parts) s.hand (wired fixed w) (wired fixed
         (controller_next fixed w)) a.now a.later
-        (walk_place (controller_parts w)).walk.reply runs.ring.in_hand rings v.kind v.effect)
+        (walk_place (controller_parts w)).walk.reply runs.ring.in_hand (rings nothing.0) v.kind v.effect)
     then_hand (of_frame v) =
         subst (λ (h : Hand). HandHasLeft Q (joined h a.frame_later)) (sym (v.hand_stays ∙ v.nothing))
         (frame_hand Q transacts_by high (met w.driver s.recent) (both s.descs s.parts) w.control.frame s.frame (wired fixed w)
-        (wired fixed (controller_next fixed w)) a.now a.frame_later (runs.walk v.part).in_hand frames v.kind v.effect)
+        (wired fixed (controller_next fixed w)) a.now a.frame_later (runs.walk v.part).in_hand (frames v.nothing) v.kind v.effect)
 
     pub event_leaves_errors : HasErrorsLeft Q (standing_then s w a) (controller_next fixed w)
     event_leaves_errors = record {
@@ -151,28 +154,31 @@ module _ (Q : Key → Bool) (high : (x : Key) → Q x ≡ true → x.eps ≡ 2) 
 module _ (fixed : Fixed) (s : Standing) (w : World) (mixed : IsMixedAt s w) (a : IsEventOf fixed s w) (k : HasErrorsLeft none s w) where
   rings_none : (m : Makes transacts_by (both s.descs s.parts) s.hand (wired fixed w) (wired fixed (controller_next fixed w)) a.later)
       → both s.descs s.parts m.copy.at m.copy.at ≡ Some (QueueHead m.copy.queue)
-      → HostHasLeft none (key_of m.copy.queue) (settlement m.copy.queue m.out m.reply).host
+      → HostHasLeft none (key_of m.copy.queue) m.copy.queue.token.pid (settlement m.copy.queue m.out m.reply).host
   rings_none m here =
       let q = m.copy.queue in
       let token : TokenHasLeft none (key_of q) q.token = (both_left none (λ x on. absurd
       (false≢true on)) fixed s w mixed a k m.copy.at).head q here in
-      answers_count_none none (key_of q) (call_in (ring_planned q) m.out false).ask (call_in (ring_planned q) m.out false).sent false m.reply
-      (host_in q) token.met (λ on. absurd (false≢true on)) (λ on. absurd (false≢true on))
+      answers_count_none none (key_of q) q.token.pid (call_in (ring_planned q) m.out false).ask
+      (call_in (ring_planned q) m.out false).sent false m.reply
+      (host_in q) token.met (λ on. absurd (false≢true on)) (λ on. absurd (false≢true on)) (λ on. absurd (false≢true on))
 
   frames_none : (m : MakesOfQueue transacts_by (both s.descs s.parts) w.control.frame s.frame (wired fixed w) (wired fixed
       (controller_next fixed w)) a.frame_later)
-      → both s.descs s.parts m.copy.at m.copy.at ≡ Some (QueueHead m.copy.queue)
-      → HostHasLeft none (key_of m.copy.queue) (frame_settlement w.control.frame.index m.copy.queue m.out m.reply).host
-  frames_none m here =
+      → IsCopiedQueue (met w.driver s.recent) (both s.descs s.parts) m.copy
+      → HostHasLeft none (key_of m.copy.queue) m.copy.queue.token.pid
+      (frame_settlement w.control.frame.index m.copy.queue m.out m.reply).host
+  frames_none m copied =
       let q = m.copy.queue in
       let token : TokenHasLeft none (key_of q) q.token = (both_left none (λ x on. absurd
-      (false≢true on)) fixed s w mixed a k m.copy.at).head q here in
-      answers_count_none none (key_of q) (call_in (planned q) m.out (is_last_of w.control.frame.index q)).ask
+      (false≢true on)) fixed s w mixed a k m.copy.at).head q copied.here in
+      answers_count_none none (key_of q) q.token.pid (call_in (planned q) m.out (is_last_of w.control.frame.index q)).ask
       (call_in (planned q) m.out (is_last_of w.control.frame.index q)).sent (is_last_of w.control.frame.index q) m.reply
-      (host_in q) token.met (λ on. absurd (false≢true on)) (λ on. absurd (false≢true on))
+      (host_in q) token.met (λ on. absurd (false≢true on)) (λ on. absurd (false≢true on)) (λ on. absurd (false≢true on))
 
   pub event_misses_none : HasErrorsLeft none (standing_then s w a) (controller_next fixed w)
-  event_misses_none = event_leaves_errors none (λ x on. absurd (false≢true on)) fixed s w mixed a k rings_none frames_none
+  event_misses_none = event_leaves_errors none (λ x on. absurd (false≢true on)) fixed s w mixed a k (λ empty. rings_none)
+      (λ empty. frames_none)
 
 pub controller_misses_none : ControllerMissesNone
 controller_misses_none fixed w k =
@@ -237,19 +243,28 @@ no_qtd n a t here =
     apart : (u : Qtd) → Element u ≡ QueueHead opening_head → ⊥
     apart u e = cc
 
-head_alone : (n : ℕ) → PartHasLeft none n (opening_parts n)
-head_alone n = record {
+pub head_alone : (Q : Key → Bool) → Q (key_of opening_head) ≡ false → (n : ℕ) → PartHasLeft Q n (opening_parts n)
+head_alone Q off n = record {
   head = λ q here. by q (opening_head_alone n q here);
   elements = λ q a t here there. absurd (no_qtd n a t there);
 }
   where
-    by : (q : Qh) → q ≡ opening_head → TokenHasLeft none (key_of q) q.token
-    by q is = subst (λ (r : Qh). TokenHasLeft none (key_of r) r.token) (sym is)
-        (record { met = λ high. refl; going = λ on. absurd (false≢true on); stopped = λ on. absurd (false≢true on) })
+    by : (q : Qh) → q ≡ opening_head → TokenHasLeft Q (key_of q) q.token
+    by q is = subst (λ (r : Qh). TokenHasLeft Q (key_of r) r.token) (sym is)
+        (record {
+          met = λ high. refl;
+          going = λ on. absurd (false≢true (sym off ∙ on));
+          stopped = λ on. absurd (false≢true (sym off ∙ on));
+          setup = λ on. absurd (false≢true (sym off ∙ on));
+        })
 
 pub new_world_misses_none : NewWorldMissesNone
 new_world_misses_none s fit bytes =
-    record { standing = new_standing; mixed = new_mixed s fit bytes; left = record { parts = head_alone; in_hand = tt; first = tt } }
+    record {
+      standing = new_standing;
+      mixed = new_mixed s fit bytes;
+      left = record { parts = head_alone none refl; in_hand = tt; first = tt };
+    }
 
 is_kept : (s : Script) → IsKeptBy (fixed_of s) OpensMixed IsUnmissedWorld
 is_kept s = record {

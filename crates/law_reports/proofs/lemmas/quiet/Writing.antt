@@ -21,9 +21,10 @@ no_head : (t : Qtd) (q : Qh) → Element t ≡ QueueHead q → ⊥
 no_head t q e = cc
 
 module _ (Q : Key → Bool) where
-  pub token_as : (x y : Key) (missed active halted : Bool) (cerr : ℕ) → y ≡ x → HasLeft Q x missed active halted cerr
-      → HasLeft Q y missed active halted cerr
-  token_as x y missed active halted cerr same k = subst (λ (z : Key). HasLeft Q z missed active halted cerr) (sym same) k
+  pub token_as : (x y : Key) (missed active halted : Bool) (cerr pid total : ℕ) → y ≡ x
+      → HasLeft Q x missed active halted cerr pid total → HasLeft Q y missed active halted cerr pid total
+  token_as x y missed active halted cerr pid total same k =
+      subst (λ (z : Key). HasLeft Q z missed active halted cerr pid total) (sym same) k
 
   module _ (parts : StructureSets) (m a : ℕ) where
     -- a queue head, whose endpoint is that of the one that was there
@@ -114,7 +115,7 @@ module _ (Q : Key → Bool) where
   linked_left n l (Settled c z) k = by (c.at == n)
     where
       by : (b : Bool) → HasLeft Q (key_of (if b then record c.queue { link = l } else c.queue)) z.host.missed z.host.active z.host.halted
-          z.host.cerr
+          z.host.cerr (if b then record c.queue { link = l } else c.queue).token.pid z.host.left
       by true = k
       by false = k
   linked_left n l (Stale m q) k = tt
