@@ -6,7 +6,7 @@
 --     PartHasLeft Q n part           .. of the queue head at n and of its qTDs
 --     HandHasLeft Q hand             .. of what is in hand, and isn't written back yet
 --     PublishesLeft made command     .. of the first qTD of a transfer, which is being stored
-use Rattle.std.specs.Prelude.{◌≡◌, ◌≢◌, ℕ, ◌≤◌, Bool, true, false, List, Option, Some}
+use Rattle.std.specs.Prelude.{◌≡◌, ◌≢◌, ℕ, ◌≤◌, Bool, true, false, Option, Some}
 use Rattle.qh_qtd.specs.declared.qtd.Qtd.{Qtd}
 use Rattle.qh_qtd.specs.declared.queue_head.Qh.{Qh}
 use Rattle.qh_qtd.specs.declared.token.Token.{Token}

@@ -8,7 +8,7 @@
 --                              command
 --     ScriptsMissNone, TextsMissNone      so it is at each moment of each script
 --     TextsMissBelow           so each line that tells a missed microframe is of an endpoint below a hub
-use Rattle.std.specs.Prelude.{◌≡◌, ◌≢◌, ℕ, Bool, true, false, List, slice_get, Some}
+use Rattle.std.specs.Prelude.{◌≡◌, ◌≢◌, ℕ, Bool, true, false, List}
 use Rattle.usb_base.specs.declared.commands.Cmd.{Cmd}
 use Rattle.usb_base.specs.declared.packets.Ask.{Ask}
 use Rattle.usb_base.specs.declared.packets.EpKind.TheVariants.{Iso}

@@ -4,7 +4,7 @@
 --                             handshake, but a NYET of an interrupt endpoint counts as an error; a PING and a SETUP
 use Rattle.std.specs.Prelude.{Bool, true, false}
 use Rattle.usb_base.specs.declared.packets.EpKind.{EpKind}
-use Rattle.usb_base.specs.declared.packets.EpKind.TheVariants.{Control, Iso, Bulk, Interrupt}
+use Rattle.usb_base.specs.declared.packets.EpKind.TheVariants.{Control, Bulk}
 use Rattle.usb_base.specs.declared.packets.Pid.{Pid}
 use Rattle.usb_base.specs.declared.packets.Pid.TheVariants as pids
 use Rattle.usb_base.specs.declared.packets.Reply.{Reply}

@@ -1,16 +1,13 @@
 -- Each part of a device, and endpoint 0 of a hub, answers the tokens that are for it as its kind may.
-use Rattle.std.proofs.Common.{◌≡◌, ℕ, ◌==◌, nat_eq, nat_le, Bool, true, false, ◌&&◌, ◌||◌, if◌then◌else◌, List, [], ◌∷◌, length, Option, Some, None}
-use Rattle.std.proofs.Common.{ap, refl, sym, subst, ◌∙◌, inl, inr}
+use Rattle.std.proofs.Common.{◌≡◌, ℕ, ◌==◌, Bool, true, false, ◌&&◌, if◌then◌else◌, List, [], ◌∷◌, length, Option, Some, None}
+use Rattle.std.proofs.Common.{ap, refl, ◌∙◌, inl, inr}
 use Rattle.std.specs.Prelude.{◌⊎◌}
 use Rattle.std.specs.List.{list_any}
-use Rattle.std.proofs.lemmas.Bool.{cond_both, false≢true, true≢false, eq-eqb}
-use Rattle.law_common.proofs.Booleans.{or_both}
+use Rattle.std.proofs.lemmas.Bool.{cond_both, true≢false, eq-eqb}
 use Rattle.usb_base.specs.declared.packets.Ask.{Ask}
 use Rattle.usb_base.specs.declared.packets.EpKind.{EpKind}
-use Rattle.usb_base.specs.declared.packets.EpKind.TheVariants as kinds
 use Rattle.usb_base.specs.declared.packets.Pid.{Pid}
 use Rattle.usb_base.specs.declared.packets.Pid.TheVariants as pids
-use Rattle.usb_base.specs.declared.packets.Reply.{Reply}
 use Rattle.usb_base.specs.declared.packets.Reply.TheVariants.{Silent}
 use Rattle.usb_base.specs.declared.packets.Speed.{Speed}
 use Rattle.usb_base.specs.declared.packets.Speed.TheVariants as speeds
@@ -23,16 +20,14 @@ use Rattle.dev_control.specs.declared.rows.Stage.{Stage}
 use Rattle.dev_control.specs.declared.rows.Stage.TheVariants as stages
 use Rattle.dev_control.specs.declared.rows.StageRow.{StageRow}
 use Rattle.dev_control.specs.declared.rows.StageRow.TheVariants as stage_rows
-use Rattle.dev_control.specs.declared.rows.StageToken.{StageToken}
-use Rattle.dev_control.specs.declared.rows.StageToken.TheVariants as tokens
 use Rattle.dev_control.specs.Stages.{Stages, token_of, data_pid, stage_of, in_row, out_row as stage_out_row, ping_row as stage_ping_row}
-use Rattle.dev_control.specs.Stages.{out_row_at, unless_nak, row_by, stage_row, pid_with, row_reply as stage_reply, stages_reply, setup_row}
+use Rattle.dev_control.specs.Stages.{out_row_at, unless_nak, row_by, pid_with, row_reply as stage_reply, stages_reply}
 use Rattle.dev_control.specs.Stages.{sequence_of, is_status, far_with}
 use Rattle.endpoint_script.specs.Sending.{Sending, sent_reply, sending_reply}
 use Rattle.endpoint_script.specs.Controlling.{Controlling, controlling_reply, reply_of}
 use Rattle.endpoint_script.specs.declared.rows.TakeRow.{TakeRow}
 use Rattle.endpoint_script.specs.declared.rows.TakeRow.TheVariants as rows
-use Rattle.endpoint_script.specs.Taking.{Taking, next_row, out_row, ping_row, has_room, is_ping, take_row, taking_row, row_reply, taking_reply}
+use Rattle.endpoint_script.specs.Taking.{Taking, next_row, out_row, ping_row, has_room, is_ping, take_row, row_reply, taking_reply}
 use Rattle.hub_class.specs.HubContent.{HubContent}
 use Rattle.hub_class.specs.EndpointZero.{reply_under, is_token, hub_reply}
 use Rattle.claims_world.specs.Quiet.{is_nyet}

@@ -1,17 +1,14 @@
 -- A queue head of a high-speed endpoint that works asks its own endpoint, which answers as its kind may.
-use Rattle.std.proofs.Common.{◌≡◌, ◌≢◌, ℕ, ◌+◌, ◌*◌, ◌==◌, min, Bool, true, false, not, ◌&&◌, ◌||◌, if◌then◌else◌, List, [], ◌∷◌, length, slice_get}
-use Rattle.std.proofs.Common.{slice_index, Option, Some, None, ap, refl, sym, subst, ◌∙◌, ⊎_elim, inl, inr, arith}
+use Rattle.std.proofs.Common.{◌≡◌, ℕ, ◌*◌, ◌==◌, min, Bool, true, false, not, ◌&&◌, ◌||◌, if◌then◌else◌, List, length}
+use Rattle.std.proofs.Common.{Some, ap, refl, sym, subst, ◌∙◌, ⊎_elim, inl, inr}
 use Rattle.std.specs.Prelude.{◌⊎◌, is_some}
-use Rattle.std.specs.List.{list_any}
-use Rattle.std.proofs.lemmas.Bool.{and_parts, cases_Bool, eqb-true, eq-eqb, false≢true, true≢false}
-use Rattle.std.proofs.lemmas.Option.{same_Some}
+use Rattle.std.proofs.lemmas.Bool.{and_parts, eqb-true, eq-eqb, true≢false}
 use Rattle.usb_base.specs.declared.endpoints.EpDesc.{EpDesc}
 use Rattle.usb_base.specs.declared.packets.Ask.{Ask}
 use Rattle.usb_base.specs.declared.packets.EpKind.{EpKind}
 use Rattle.usb_base.specs.declared.packets.EpKind.TheVariants as kinds
 use Rattle.usb_base.specs.declared.packets.Pid.{Pid}
 use Rattle.usb_base.specs.declared.packets.Pid.TheVariants as pids
-use Rattle.usb_base.specs.declared.packets.Reply.{Reply}
 use Rattle.usb_base.specs.declared.packets.Speed.{Speed}
 use Rattle.usb_base.specs.declared.packets.Speed.TheVariants as speeds
 use Rattle.usb_base.specs.declared.packets.Split.{Split}
@@ -20,50 +17,38 @@ use Rattle.usb_base.specs.declared.packets.Way.{Way}
 use Rattle.usb_base.specs.declared.packets.Way.TheVariants as ways
 use Rattle.script_types.specs.declared.scripts.Script.{Script}
 use Rattle.script_text.specs.Faults.{Spells}
-use Rattle.word_mem.specs.Memory.{Mem, word_at}
-use Rattle.word_mem.specs.Views.{words_at}
-use Rattle.toggle_error.specs.declared.host.HostSide.{HostSide}
-use Rattle.toggle_error.specs.Columns.{limit_of}
-use Rattle.qh_qtd.specs.declared.qtd.Qtd.{Qtd}
 use Rattle.qh_qtd.specs.declared.queue_head.Qh.{Qh}
-use Rattle.mem_queues.specs.Structures.{queue_head_at_address, reaches_queue_head}
-use Rattle.transactions.specs.declared.pipe.Pipe.{Pipe}
+use Rattle.mem_queues.specs.Structures.{queue_head_at_address}
 use Rattle.transactions.specs.Asks.{pinged, token_pid, sends}
 use Rattle.transactions.specs.Calls.{moving_of}
 use Rattle.hc_copy.specs.declared.held.Transaction.{Transaction}
-use Rattle.hc_copy.specs.Planning.{pid_at, speed_at, queue_pipe, host_in, split_at, bytes_out, transaction_at, transaction_of}
+use Rattle.hc_copy.specs.Planning.{pid_at, speed_at, queue_pipe, host_in, split_at, bytes_out, transaction_of}
 use Rattle.hc_copy.specs.Transacting.{call_in}
-use Rattle.bus_wire.specs.Bus.{Bus, Wired, fixed_of, opening_wired, reply_of}
-use Rattle.claims_driver.specs.Leaving.{HasOwners}
+use Rattle.bus_wire.specs.Bus.{fixed_of, opening_wired, reply_of}
 use Rattle.claims_report.specs.Controls.{is_of_hub, control_of}
 use Rattle.claims_report.specs.Streams.{has_stream}
-use Rattle.claims_world.specs.Quiet.{is_nyet, IsHeardAbove}
+use Rattle.claims_world.specs.Quiet.{IsHeardAbove}
 use Rattle.drv_table.specs.declared.content.Endpoint.{Endpoint}
 use Rattle.drv_table.specs.DriverContent.{DriverContent}
 use Rattle.drv_table.specs.Kinds.{is_iso}
 use Rattle.drv_table.specs.Words.{head_block, is_control, is_high, speed_field}
-use Rattle.law_driver.specs.queued_drivers.Queued.{queued, queued_endpoint, IsOfWay}
-use Rattle.law_structures.specs.lent_structures.Structures.{QueueHead, Element}
+use Rattle.law_driver.specs.queued_drivers.Queued.{queued_endpoint, IsOfWay}
+use Rattle.law_structures.specs.lent_structures.Structures.{QueueHead}
 use Rattle.law_structures.specs.lent_structures.Sound.{IsWorking}
 use Rattle.law_structures.proofs.lemmas.lent_structures.Altering.{found_queue}
 use Rattle.law_structures.proofs.lemmas.lent_structures.Reading.{head_read}
-use Rattle.law_ring.specs.Bus.{Sender}
 use Rattle.law_ring.specs.OutBus.{Taker}
-use Rattle.law_ring.specs.OutPipes.{IsOutPipe}
-use Rattle.law_ring.specs.Pipes.{IsPipe}
 use Rattle.law_ring.specs.QueueParts.{IsQueuePart}
 use Rattle.law_ring.specs.Told.{Endpoint as Told, endpoint_of, HasEndpoint}
-use Rattle.law_driver_ring.specs.fed_queues.Places.{IsMet}
 use Rattle.law_devices.specs.Senders.{sender_of}
 use Rattle.law_devices.specs.scripted_takers.Takers.{taker_of}
 use Rattle.law_devices.proofs.lemmas.scripted_takers.Asking.{HasTaker}
-use Rattle.law_microframes.proofs.lemmas.time.RingEvents.{head_has_bit}
 use Rattle.law_world.specs.memory.Mixed.{Standing, IsMixedAt}
 use Rattle.law_world.specs.memory.pipe_steps.Pipes.{AsksTheWay}
 use Rattle.law_world.specs.steps.Streaming.{wired}
 use Rattle.law_world.proofs.lemmas.memory.HarvestKept.{tells_of}
-use Rattle.law_reports.specs.pipes.Declared.{Sides, sides_of, IsDeclared, IsDeclaredBy}
-use Rattle.law_reports.specs.pipes.Piped.{asked_as, IsPiped}
+use Rattle.law_reports.specs.pipes.Declared.{sides_of, IsDeclaredBy}
+use Rattle.law_reports.specs.pipes.Piped.{asked_as}
 use Rattle.law_driver.proofs.Common.{get_queued}
 use Rattle.law_reports.proofs.lemmas.pipes.Names.{IsMetHead, met_head, by_real, kept_as, queue_same}
 use Rattle.law_reports.specs.quiet.Errors.{key_of}

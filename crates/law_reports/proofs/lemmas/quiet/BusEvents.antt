@@ -1,6 +1,6 @@
 -- What is known of the bus of a script stands before the first line, and after each transaction and each beginning of a microframe.
-use Rattle.std.proofs.Common.{◌≡◌, ◌≢◌, ℕ, zero, suc, Bool, true, false, List, [], ◌∷◌, map, length, replicate, slice_get, Option, Some, None}
-use Rattle.std.proofs.Common.{ap, refl, sym, subst, ◌∙◌, ⊎_elim, inl, inr}
+use Rattle.std.proofs.Common.{◌≡◌, ◌≢◌, ℕ, zero, suc, true, false, List, [], ◌∷◌, map, length, replicate, slice_get, Option, Some, None}
+use Rattle.std.proofs.Common.{ap, refl, sym, ◌∙◌, ⊎_elim, inl, inr}
 use Rattle.std.specs.Prelude.{is_some, ◌⊎◌}
 use Rattle.std.specs.List.{AllByRecursion, list_any}
 use Rattle.std.specs.Option.{option_map}
@@ -10,7 +10,6 @@ use Rattle.law_common.proofs.Lists.{all_map, nth_all}
 use Rattle.usb_base.specs.declared.packets.Ask.{Ask}
 use Rattle.usb_base.specs.declared.packets.EpKind.{EpKind}
 use Rattle.usb_base.specs.declared.packets.EpKind.TheVariants as kinds
-use Rattle.usb_base.specs.declared.packets.Speed.TheVariants.{High}
 use Rattle.usb_base.specs.declared.packets.Split.{Split}
 use Rattle.usb_base.specs.declared.packets.Split.TheVariants as splits
 use Rattle.usb_base.specs.declared.packets.Way.{Way}
@@ -23,12 +22,11 @@ use Rattle.dev_control.specs.declared.rows.StageToken.{StageToken}
 use Rattle.dev_control.specs.declared.rows.StageToken.TheVariants as stages
 use Rattle.dev_control.specs.Stages.{token_of}
 use Rattle.endpoint_script.specs.declared.endpoint.Endpoint.{Endpoint}
-use Rattle.endpoint_script.specs.Device.{Device, opened_part, opened_endpoint, opening}
+use Rattle.endpoint_script.specs.Device.{opened_part, opened_endpoint, opening}
 use Rattle.hub_class.specs.HubContent.{HubContent}
 use Rattle.hub_class.specs.HubContent as Hubs
-use Rattle.bus_wire.specs.declared.seats.Seat.{Seat}
 use Rattle.bus_wire.specs.Seats.{seats_of}
-use Rattle.bus_wire.specs.Bus.{Bus, Wired, Fixed, fixed_of, floor_of, no_packets, opening_bus, opening_wired, asked_of, reply_of, transact_after}
+use Rattle.bus_wire.specs.Bus.{Bus, Wired, fixed_of, floor_of, opening_bus, asked_of, reply_of, transact_after}
 use Rattle.bus_wire.specs.Bus.{is_allowed, begin_after}
 use Rattle.claims_report.specs.ControlSides.{Device as Side}
 use Rattle.claims_report.specs.Controls.{control_of}
@@ -38,7 +36,7 @@ use Rattle.law_devices.specs.request_calls.Bus.{device_of, IsAskFor, IsAnswered}
 use Rattle.law_devices.proofs.lemmas.scripted_requests.Asking.{a_scripted_bus_answers_by_stages}
 use Rattle.law_devices.proofs.lemmas.scripted_requests.Beginning.{keeps_devices}
 use Rattle.law_microframes.specs.due.repeats.Hearing.{HasNumber}
-use Rattle.law_microframes.proofs.lemmas.due.lemmas.repeats.Alike.{IsAlike, AreAlike, worked_alike, asks_alike_at, at_alike, asks_keep_number}
+use Rattle.law_microframes.proofs.lemmas.due.lemmas.repeats.Alike.{AreAlike, worked_alike, asks_alike_at, at_alike, asks_keep_number}
 use Rattle.law_reports.specs.quiet.Heard.{PartHasHandshakes, HasHandshakes, IsOfText, IsHeardBus}
 use Rattle.law_reports.proofs.lemmas.quiet.Buses.{ask_keeps_texts, begin_keeps_texts}
 

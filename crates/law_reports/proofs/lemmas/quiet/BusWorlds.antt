@@ -1,5 +1,5 @@
 -- What is known of the bus of a script stands after each event of the controller: each is one ask, the beginning of a microframe, or none.
-use Rattle.std.proofs.Common.{◌≡◌, ℕ, Bool, true, false, List, Option, Some, None}
+use Rattle.std.proofs.Common.{ℕ, Bool, true, false, List, Option, Some, None}
 use Rattle.script_types.specs.declared.scripts.Script.{Script}
 use Rattle.bus_wire.specs.Bus.{Bus, fixed_of}
 use Rattle.hc_copy.specs.Buffer.{sending}

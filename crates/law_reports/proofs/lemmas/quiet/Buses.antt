@@ -1,8 +1,8 @@
 -- No event changes whose a device of the bus is, where a hub stands, and that each endpoint has a number; and none is left a NYET that it
 -- hadn't.
-use Rattle.std.proofs.Common.{◌≡◌, ℕ, zero, suc, Bool, true, false, ◌||◌, if◌then◌else◌, List, [], ◌∷◌, map, slice_get, slice_set, Option, Some}
+use Rattle.std.proofs.Common.{◌≡◌, ℕ, zero, suc, false, List, [], ◌∷◌, map, slice_get, slice_set, Option, Some}
 use Rattle.std.proofs.Common.{None, ap, refl, sym, subst, ◌∙◌}
-use Rattle.std.specs.Prelude.{is_some, nat_le}
+use Rattle.std.specs.Prelude.{nat_le}
 use Rattle.std.specs.List.{AllByRecursion, list_any}
 use Rattle.std.proofs.lemmas.Bool.{cond_both}
 use Rattle.std.proofs.lemmas.Option.{same_Some}
@@ -34,7 +34,6 @@ use Rattle.bus_wire.specs.Below.{Below, Floor, below_at, asked_below, below_row,
 use Rattle.bus_wire.specs.Below.{floor_left, floor_worked}
 use Rattle.bus_wire.specs.Bus.{Fixed, Bus, floor_of, begins_anew, begun_at, asked_of, bus_row, changed_by, after_at, transact_after, begin_after}
 use Rattle.claims_world.specs.Quiet.{is_nyet}
-use Rattle.law_devices.proofs.Devices.{address_after}
 use Rattle.law_devices.proofs.Lists.{Holds}
 use Rattle.law_devices.proofs.lemmas.declared_controls.Places.{all_get}
 use Rattle.law_reports.specs.quiet.Heard.{PartHasHandshakes, HasHandshakes, IsOfText}

@@ -1,5 +1,5 @@
 -- Each event of the controller, of either walk, leaves errors where its transaction counts none.
-use Rattle.std.proofs.Common.{◌≡◌, ◌≢◌, ℕ, cond, Bool, true, false, ◌==◌, not, ◌&&◌, if◌then◌else◌, List, Option, Some, ap, refl, sym}
+use Rattle.std.proofs.Common.{◌≡◌, ℕ, cond, Bool, true, false, not, ◌&&◌, if◌then◌else◌, List, Option, Some, ap, refl, sym}
 use Rattle.std.proofs.Common.{subst, ◌∙◌, ⊎_elim}
 use Rattle.std.proofs.lemmas.Bool.{eq-eqb}
 use Rattle.std.proofs.lemmas.Option.{same_Some}

@@ -1,11 +1,9 @@
 -- A loss below a hub leaves the high-speed bus whole, a loss above doesn't, nor does a NYET of an interrupt endpoint; and a keyboard below
 -- a hub may use up its errors.
-use Rattle.std.proofs.Common.{◌≡◌, ℕ, zero, suc, Bool, true, false, [], slice_get, Some, ap, refl, sym, ◌∙◌}
-use Rattle.std.specs.List.{AllByRecursion}
+use Rattle.std.proofs.Common.{◌≡◌, ℕ, zero, suc, false, [], slice_get, Some, ap, refl, sym, ◌∙◌}
 use Rattle.std.proofs.lemmas.Bool.{false≢true, true≢false}
 use Rattle.std.proofs.lemmas.Option.{same_Some}
 use Rattle.usb_base.specs.declared.endpoints.EndCause.TheVariants as causes
-use Rattle.usb_base.specs.declared.packets.EpKind.TheVariants as kinds
 use Rattle.usb_base.specs.declared.reports.Report.{Report}
 use Rattle.usb_base.specs.declared.reports.What.TheVariants as lines
 use Rattle.drv_table.specs.declared.content.Endpoint.{Endpoint}

@@ -1,19 +1,16 @@
 -- At each moment of each script whose packets on the high-speed bus all get through, no queue of an endpoint there has used up its errors.
-use Rattle.std.proofs.Common.{◌≡◌, ◌≢◌, ℕ, ◌==◌, Bool, true, false, not, ◌&&◌, ◌||◌, List, [], ◌∷◌, ◌++◌, length, slice_get, Option, Some, None, Result}
+use Rattle.std.proofs.Common.{◌≡◌, ◌≢◌, ℕ, ◌==◌, Bool, true, false, not, ◌||◌, List, [], ◌∷◌, length, slice_get, Some, Result}
 use Rattle.std.proofs.Common.{Ok, Err, ap, refl, sym, subst, ◌∙◌, ⊎_elim, inl, inr}
-use Rattle.std.specs.Prelude.{◌⊎◌}
-use Rattle.std.specs.List.{AllByRecursion, list_any}
-use Rattle.std.proofs.lemmas.Bool.{and_parts, eqb-true, false≢true}
+use Rattle.std.specs.List.{AllByRecursion}
+use Rattle.std.proofs.lemmas.Bool.{and_parts, eqb-true}
 use Rattle.std.proofs.lemmas.Option.{same_Some}
 use Rattle.usb_base.specs.declared.commands.Cmd.{Cmd}
-use Rattle.usb_base.specs.declared.commands.Cmd.TheVariants as commands
 use Rattle.usb_base.specs.declared.endpoints.EpDesc.{EpDesc}
 use Rattle.usb_base.specs.declared.endpoints.EpName.{EpName}
 use Rattle.usb_base.specs.declared.packets.Ask.{Ask}
 use Rattle.usb_base.specs.declared.packets.EpKind.{EpKind}
 use Rattle.usb_base.specs.declared.packets.EpKind.TheVariants as kinds
 use Rattle.usb_base.specs.declared.packets.Reply.{Reply}
-use Rattle.usb_base.specs.declared.packets.Way.{Way}
 use Rattle.usb_base.specs.declared.packets.Way.TheVariants as ways
 use Rattle.usb_base.specs.declared.reports.OfferError.{OfferError}
 use Rattle.script_types.specs.declared.scripts.Line.{Line}
@@ -22,49 +19,44 @@ use Rattle.script_types.specs.declared.scripts.Script.{Script}
 use Rattle.script_fits.specs.Fits.{IsFit}
 use Rattle.script_fits.proofs.Texts.{spelled_fits}
 use Rattle.script_text.specs.Faults.{Spells}
-use Rattle.bus_wire.specs.Bus.{Bus, Wired, Fixed, fixed_of, reply_of, transact_after, begin_after, opening_bus}
+use Rattle.bus_wire.specs.Bus.{Fixed, fixed_of, reply_of}
 use Rattle.qh_qtd.specs.declared.queue_head.Qh.{Qh}
 use Rattle.toggle_error.specs.Settle.{settled}
-use Rattle.hc_copy.specs.Planning.{pid_at, host_in, transaction_of}
+use Rattle.hc_copy.specs.Planning.{host_in, transaction_of}
 use Rattle.hc_copy.specs.Transacting.{call_in}
-use Rattle.hc_interrupt.specs.Turns.{planned, is_last_of}
-use Rattle.async_walk.specs.Naks.{kind_at, planned as ring_planned}
-use Rattle.claims_driver.specs.Leaving.{HasOwners}
-use Rattle.claims_world.specs.Quiet.{is_nyet, IsHeardAbove}
+use Rattle.hc_interrupt.specs.Turns.{is_last_of}
+use Rattle.async_walk.specs.Naks.{kind_at}
+use Rattle.claims_world.specs.Quiet.{IsHeardAbove}
 use Rattle.drv_table.specs.declared.content.Endpoint.{Endpoint}
 use Rattle.drv_table.specs.Accepting.{Offered}
 use Rattle.drv_table.specs.DriverContent.{DriverContent}
 use Rattle.drv_table.specs.Kinds.{is_iso}
 use Rattle.drv_table.specs.Offers.{IsOffered, offered}
 use Rattle.drv_table.specs.Rows.{driver_row}
-use Rattle.drv_table.specs.Words.{opening_head}
-use Rattle.law_driver.specs.queued_drivers.Queued.{queued_endpoint}
 use Rattle.law_driver.proofs.lemmas.queued_drivers.CommandReasons.{reason_of}
 use Rattle.law_structures.specs.lent_structures.Structures.{QueueHead, Structures}
-use Rattle.law_ring.specs.Hand.{Hand, Empty, Copied}
+use Rattle.law_ring.specs.Hand.{Hand, Empty}
 use Rattle.law_ring.specs.Effects.{settlement, Makes}
 use Rattle.law_ring.specs.OutBus.{Taker}
 use Rattle.law_common.proofs.Lists.{nothing_at, push_which}
 use Rattle.law_frames.specs.Frame.{IsCopiedQueue}
-use Rattle.law_frames.specs.FrameHand.{FrameHand, OfQueue}
+use Rattle.law_frames.specs.FrameHand.{FrameHand}
 use Rattle.law_frames.specs.FrameHand.FrameHand.{Nothing as NoneHeld}
 use Rattle.law_frames.specs.FrameEffects.{frame_settlement, MakesOfQueue}
 use Rattle.law_controller.specs.frame_control.Joined.{joined}
 use Rattle.law_descriptors.specs.Both.{both}
 use Rattle.law_descriptors.specs.Meeting.{met}
-use Rattle.law_descriptors.proofs.Rings.{other_off}
-use Rattle.law_descriptors.proofs.Standing.{both_off}
 use Rattle.law_devices.proofs.lemmas.scripted_takers.Asking.{HasTaker}
 use Rattle.law_microframes.specs.visits.Belonging.{IsQueueAt}
 use Rattle.law_microframes.proofs.lemmas.visits.AskedHeads.{asked_is_near}
 use Rattle.law_microframes.proofs.lemmas.visits.BelongQueues.{queue_belongs}
 use Rattle.law_scripts.proofs.lemmas.script_bytes.Texts.{a_text_spells_bytes}
 use Rattle.law_scripts.specs.byte_answers.Bytes.{IsByteScript}
-use Rattle.law_world.specs.steps.receiving_runs.Runs.{KindOfLine, IsKeptBy}
+use Rattle.law_world.specs.steps.receiving_runs.Runs.{KindOfLine}
 use Rattle.law_world.specs.steps.Streaming.{transacts_by, wired}
 use Rattle.law_world.specs.memory.Mixed.{Standing, IsMixedAt}
 use Rattle.law_world.specs.memory.Opens.{OpensMixed}
-use Rattle.law_world.specs.memory.Steps.{IsEventOf, IsMixedControlled, IsMixedNext, standing_then, QueueStep}
+use Rattle.law_world.specs.memory.Steps.{IsEventOf, IsMixedNext, standing_then, QueueStep}
 use Rattle.law_world.specs.memory.Steps.{stays, harvests, returns, lends, stores, mends, begins, opens, unlinks, narrows, goes}
 use Rattle.law_world.specs.memory.pipe_steps.Laws.{IsNoOpening}
 use Rattle.law_world.proofs.Common.{lines_can}
@@ -73,11 +65,10 @@ use Rattle.law_world.proofs.lemmas.memory.Driving.{driver_tells_step}
 use Rattle.law_world.proofs.lemmas.memory.FittingTexts.{texts_open_fitting}
 use Rattle.law_world.proofs.lemmas.memory.Texts.{texts_fit}
 use Rattle.law_world.proofs.lemmas.memory.Together.{lines_fit}
-use Rattle.law_reports.specs.lines.Lined.{Lines}
 use Rattle.law_reports.specs.lines.TellingLaws.{IsTellingNext}
 use Rattle.law_reports.proofs.lemmas.lines.Driven.{driver_keeps_telling}
-use Rattle.law_reports.specs.pipes.Declared.{Sides, sides_of}
-use Rattle.law_reports.specs.pipes.Piped.{Heads, IsPiped}
+use Rattle.law_reports.specs.pipes.Declared.{sides_of}
+use Rattle.law_reports.specs.pipes.Piped.{IsPiped}
 use Rattle.law_reports.specs.pipes.PipedLaws.{OpensDeclared}
 use Rattle.law_reports.proofs.lemmas.pipes.Accepted.{EndsThen, one_more as one_endpoint_more, one_anew, ends_then, was_anew}
 use Rattle.law_reports.proofs.lemmas.pipes.Across.{WasIn, was_in, row_ends}
@@ -102,7 +93,7 @@ use Rattle.law_reports.proofs.lemmas.quiet.Waiting.{none_waits}
 use Rattle.law_reports.proofs.lemmas.quiet.Worlds.{driver_leaves_errors, off, event_leaves_errors, head_alone}
 use Rattle.bus_world.specs.Budgets.{moment}
 use Rattle.bus_world.specs.Opening.{opening_world}
-use Rattle.bus_world.specs.World.{World, driver_parts, driver_next, controller_next, controller_parts, name_in, commanded_by, commanded}
+use Rattle.bus_world.specs.World.{World, driver_parts, driver_next, controller_next, name_in, commanded_by, commanded}
 
 high_only : (x : Key) → is_high_asked x ≡ true → x.eps ≡ 2
 high_only x on = eqb-true x.eps 2 (and_parts (x.eps == 2) (x.dtc || not (x.ep == 0)) on).0

@@ -1,12 +1,10 @@
 -- Where no packet on the high-speed bus is lost, the endpoint that is asked is heard, and answers as its kind may.
-use Rattle.std.proofs.Common.{◌≡◌, ℕ, zero, suc, ◌+◌, ◌-◌, ◌==◌, cond, Bool, true, false, not, ◌&&◌, ◌||◌, if◌then◌else◌, List, [], ◌∷◌, ◌++◌, map, filter}
-use Rattle.std.proofs.Common.{length, find, slice_get, Option, Some, None, ap, refl, sym, subst, ◌∙◌, arith, inl, inr}
+use Rattle.std.proofs.Common.{◌≡◌, ℕ, zero, suc, ◌+◌, ◌-◌, ◌==◌, cond, Bool, true, false, not, ◌&&◌, ◌||◌, if◌then◌else◌, List, [], ◌∷◌, map, filter}
+use Rattle.std.proofs.Common.{length, slice_get, Option, Some, None, ap, refl, sym, subst, ◌∙◌, arith, inl, inr}
 use Rattle.std.specs.Prelude.{is_some}
-use Rattle.std.specs.List.{AllByRecursion, list_any, position}
+use Rattle.std.specs.List.{AllByRecursion, list_any}
 use Rattle.std.specs.Option.{option_and_then, option_map}
-use Rattle.std.proofs.lemmas.Bool.{and_parts, cases_Bool, cond-true, cond-false, eqb-true, eq-eqb}
-use Rattle.std.proofs.lemmas.Option.{same_Some}
-use Rattle.law_common.proofs.Booleans.{none_late}
+use Rattle.std.proofs.lemmas.Bool.{and_parts, cases_Bool, eqb-true, eq-eqb}
 use Rattle.usb_base.specs.Acknowledgement.{acknowledges}
 use Rattle.usb_base.specs.declared.endpoints.EpName.{EpName}
 use Rattle.usb_base.specs.declared.packets.Ask.{Ask}
@@ -23,7 +21,6 @@ use Rattle.usb_base.specs.declared.packets.Way.TheVariants as ways
 use Rattle.script_types.specs.declared.devices.HubText.{HubText}
 use Rattle.script_types.specs.declared.scripts.FateText.{FateText}
 use Rattle.script_types.specs.declared.scripts.Script.{Script}
-use Rattle.dev_control.specs.declared.rows.StageToken.{StageToken}
 use Rattle.dev_control.specs.declared.rows.StageToken.TheVariants as tokens
 use Rattle.dev_control.specs.Stages.{token_of}
 use Rattle.endpoint_script.specs.declared.endpoint.Endpoint.{Endpoint}
@@ -35,16 +32,13 @@ use Rattle.endpoint_script.specs.Sending.{sending_reply}
 use Rattle.endpoint_script.specs.Taking.{taking_reply}
 use Rattle.hub_class.specs.HubContent.{HubContent}
 use Rattle.hub_class.specs.EndpointZero.{hub_reply}
-use Rattle.bus_wire.specs.declared.asked.Answerer.{Answerer}
-use Rattle.bus_wire.specs.declared.asked.Answerer.TheVariants as answerers
 use Rattle.bus_wire.specs.declared.asked.Asked.{Asked}
 use Rattle.bus_wire.specs.declared.seats.Owner.{Owner}
 use Rattle.bus_wire.specs.declared.seats.Owner.TheVariants as owners
 use Rattle.bus_wire.specs.declared.seats.Seat.{Seat}
-use Rattle.bus_wire.specs.declared.seats.TokenKind.{TokenKind}
 use Rattle.bus_wire.specs.declared.seats.TokenKind.TheVariants as kinds
-use Rattle.bus_wire.specs.Asking.{device_answer, hub_answer, losses_of}
-use Rattle.bus_wire.specs.Bus.{Bus, Wired, Fixed, fixed_of, hears, hears_plain, asked_at, asked_of, answer_by, reply_at, reply_of}
+use Rattle.bus_wire.specs.Asking.{device_answer, hub_answer}
+use Rattle.bus_wire.specs.Bus.{Bus, Wired, fixed_of, hears, hears_plain, asked_at, asked_of, answer_by, reply_at, reply_of}
 use Rattle.bus_wire.specs.Fates.{is_against, is_bad, is_same_name, is_unheard}
 use Rattle.bus_wire.specs.Seats.{hub_seat, token_kind, suits, place_for, hub_seats_from, device_seats, seats_of}
 use Rattle.bus_wire.specs.WhoHeard.{who_heard, asker_hears, is_answer, later, packets_before}
@@ -65,7 +59,7 @@ use Rattle.law_reports.specs.quiet.Heard.{IsHeardBus}
 use Rattle.law_reports.specs.quiet.Replies.{tells}
 use Rattle.law_reports.proofs.lemmas.quiet.Answers.{sends_tell, MayWait, IsOutToken, by_out, by_ping, takes_tell, IsToken, of_setup, of_in}
 use Rattle.law_reports.proofs.lemmas.quiet.Answers.{of_out, of_ping, controls_tell, hub_tells}
-use Rattle.law_reports.proofs.lemmas.quiet.BusEvents.{IsThere, there_is}
+use Rattle.law_reports.proofs.lemmas.quiet.BusEvents.{there_is}
 
 -- ---- no packet is lost
 

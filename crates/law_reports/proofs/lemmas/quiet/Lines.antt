@@ -1,9 +1,9 @@
 -- Each line that tells a missed microframe is of an endpoint below a hub; and where all packets above get through, so is each that tells a
 -- halt by errors.
-use Rattle.std.proofs.Common.{◌≡◌, ◌≢◌, ℕ, zero, suc, ◌*◌, Bool, true, false, List, [], ◌∷◌, ◌++◌, length, slice_get, Option, Some, None}
+use Rattle.std.proofs.Common.{◌≡◌, ℕ, zero, suc, ◌*◌, Bool, true, false, List, [], ◌∷◌, ◌++◌, length, slice_get, Some, None}
 use Rattle.std.proofs.Common.{Result, Ok, Err, ap, refl, sym, subst, ◌∙◌, ⊎_elim, inl, inr}
 use Rattle.std.specs.Prelude.{◌⊎◌, ◌==◌, ◌&&◌, ◌||◌, not}
-use Rattle.std.proofs.lemmas.Bool.{false≢true, true≢false}
+use Rattle.std.proofs.lemmas.Bool.{false≢true}
 use Rattle.std.proofs.lemmas.Option.{same_Some}
 use Rattle.usb_base.specs.declared.commands.Cmd.{Cmd}
 use Rattle.usb_base.specs.declared.endpoints.EpDesc.{EpDesc}
@@ -16,7 +16,6 @@ use Rattle.usb_base.specs.declared.reports.Report.{Report}
 use Rattle.usb_base.specs.declared.reports.What.{What}
 use Rattle.usb_base.specs.declared.reports.What.TheVariants as lines
 use Rattle.script_types.specs.declared.scripts.Script.{Script}
-use Rattle.script_text.specs.Faults.{Spells}
 use Rattle.bus_wire.specs.Bus.{fixed_of}
 use Rattle.qh_qtd.specs.declared.queue_head.Qh.{Qh}
 use Rattle.qh_qtd.specs.declared.token.Token.{Token}
@@ -27,23 +26,19 @@ use Rattle.drv_table.specs.declared.content.Transfer.{Transfer}
 use Rattle.drv_table.specs.Accepting.{Offered}
 use Rattle.drv_table.specs.DriverContent.{DriverContent}
 use Rattle.drv_table.specs.Offers.{offered}
-use Rattle.drv_table.specs.Parts.{Parts}
 use Rattle.drv_table.specs.Rows.{driver_row}
 use Rattle.drv_table.specs.Words.{is_high, speed_field}
 use Rattle.claims_answers.specs.Telling.{token_of, HasReason, done, missed, babbled, failed, stalled, IsToldByToken, Reason, by_token}
 use Rattle.claims_answers.specs.Telling.{behind, by_slots, by_cancel, AreTold, nothing, one_more}
 use Rattle.claims_driver.specs.Owners.{is_descriptor}
 use Rattle.law_driver.proofs.Common.{pushed}
-use Rattle.law_driver.specs.queued_drivers.Queued.{queued, with_queue}
-use Rattle.law_driver.specs.queued_drivers.Rows.{TellsAlike}
+use Rattle.law_driver.specs.queued_drivers.Queued.{with_queue}
 use Rattle.law_driver.proofs.lemmas.queued_drivers.CommandReasons.{reason_of}
-use Rattle.law_structures.specs.lent_structures.Structures.{QueueHead}
 use Rattle.law_structures.proofs.lemmas.lent_structures.Reading.{head_read}
 use Rattle.law_ring.specs.Told.{Endpoint as Told, endpoint_of, HasEndpoint}
 use Rattle.law_telling.proofs.Lines.{drivers_tell_for_reasons}
 use Rattle.bus_world.specs.Budgets.{moment}
-use Rattle.bus_world.specs.World.{World, driver_parts, driver_next, name_in, commanded_by, commanded}
-use Rattle.law_world.specs.memory.Mixed.{Standing, IsMixedAt}
+use Rattle.bus_world.specs.World.{World, driver_parts, driver_next, name_in, commanded_by}
 use Rattle.law_world.proofs.lemmas.memory.Carrying.{carrying}
 use Rattle.law_world.proofs.lemmas.memory.HarvestKept.{tells_of}
 use Rattle.law_reports.specs.pipes.Declared.{sides_of}

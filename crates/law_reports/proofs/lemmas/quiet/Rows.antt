@@ -1,5 +1,5 @@
 -- What the host makes of a reply: no row sets the bit of a missed microframe, and only one that counts an error changes the count.
-use Rattle.std.proofs.Common.{◌≡◌, ◌≢◌, ℕ, ◌-◌, nat_le, ◌==◌, Bool, true, false, not, ◌&&◌, if◌then◌else◌, List, length, ap, refl, sym, ◌∙◌}
+use Rattle.std.proofs.Common.{◌≡◌, ◌≢◌, ℕ, ◌-◌, nat_le, ◌==◌, Bool, true, false, not, ◌&&◌, if◌then◌else◌, length, ap, refl, sym, ◌∙◌}
 use Rattle.std.proofs.lemmas.Bool.{false≢true}
 use Rattle.usb_base.specs.declared.packets.Ask.{Ask}
 use Rattle.usb_base.specs.declared.packets.EpKind.{EpKind}
@@ -13,7 +13,6 @@ use Rattle.usb_base.specs.declared.packets.Speed.TheVariants.{High}
 use Rattle.usb_base.specs.declared.packets.Split.{Split}
 use Rattle.usb_base.specs.declared.packets.Split.TheVariants as splits
 use Rattle.toggle_error.specs.declared.host.HostSide.{HostSide}
-use Rattle.toggle_error.specs.declared.rows.AskToken.{AskToken}
 use Rattle.toggle_error.specs.declared.rows.AskToken.TheVariants as tokens
 use Rattle.toggle_error.specs.declared.rows.CompleteRow.{CompleteRow}
 use Rattle.toggle_error.specs.declared.rows.CompleteRow.TheVariants.{Answered}
@@ -25,12 +24,12 @@ use Rattle.toggle_error.specs.declared.rows.SettleRow.{SettleRow}
 use Rattle.toggle_error.specs.declared.rows.SettleRow.TheVariants.{Plain, Start, Complete}
 use Rattle.toggle_error.specs.declared.rows.StartRow.{StartRow}
 use Rattle.toggle_error.specs.declared.rows.StartRow.TheVariants.{Accepted}
-use Rattle.toggle_error.specs.Columns.{limit_of, fitting, heard_data, heard_hand, heard_of, out_token, token_at, token_of}
+use Rattle.toggle_error.specs.Columns.{limit_of, heard_data, heard_of, out_token, token_at, token_of}
 use Rattle.toggle_error.specs.PlainRows.{plain_row, after_plain}
 use Rattle.toggle_error.specs.SplitRows.{after_start, after_complete}
 use Rattle.toggle_error.specs.Settle.{row_at, settle_row, after_settle_row, settled}
 use Rattle.hc_copy.specs.Planning.{pid_at}
-use Rattle.law_reports.specs.quiet.Errors.{Key, HasLeft, HostHasLeft}
+use Rattle.law_reports.specs.quiet.Errors.{Key, HostHasLeft}
 use Rattle.law_reports.specs.quiet.Replies.{is_data, tells}
 
 -- ---- a missed microframe

@@ -1,9 +1,8 @@
 -- A keyboard may miss a microframe, and a disk at high speed may not.
-use Rattle.std.proofs.Common.{◌≡◌, ℕ, zero, suc, true, false, [], slice_get, Some, ap, refl, sym, ◌∙◌}
+use Rattle.std.proofs.Common.{◌≡◌, ℕ, zero, suc, false, [], slice_get, Some, ap, refl, sym, ◌∙◌}
 use Rattle.std.proofs.lemmas.Bool.{true≢false}
 use Rattle.std.proofs.lemmas.Option.{same_Some}
 use Rattle.usb_base.specs.declared.reports.Report.{Report}
-use Rattle.usb_base.specs.declared.reports.What.TheVariants as lines
 use Rattle.drv_table.specs.declared.content.Endpoint.{Endpoint}
 use Rattle.drv_table.specs.Offers.{new_endpoint}
 use Rattle.drv_table.specs.Words.{is_high}

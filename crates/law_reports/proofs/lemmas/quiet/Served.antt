@@ -1,6 +1,6 @@
 -- Each endpoint that a text opens has a number of its kind, and a control endpoint at high speed stands on the bus, of a hub or a device.
-use Rattle.std.proofs.Common.{◌≡◌, ℕ, zero, suc, ◌≤◌, ◌==◌, Bool, true, false, not, ◌||◌, List, [], ◌∷◌, slice_get, Some, ap, refl, sym, subst, ◌∙◌}
-use Rattle.std.proofs.Common.{inl, inr, arith, ⊎_elim}
+use Rattle.std.proofs.Common.{◌≡◌, ℕ, zero, suc, ◌≤◌, ◌==◌, Bool, true, false, not, ◌||◌, List, [], ◌∷◌, slice_get, Some, ap, refl}
+use Rattle.std.proofs.Common.{inl, inr, arith}
 use Rattle.std.specs.Prelude.{is_some, ◌⊎◌}
 use Rattle.std.specs.List.{AllByRecursion}
 use Rattle.std.proofs.lemmas.Bool.{cases_Bool, false≢true, eqb-true}
@@ -26,7 +26,7 @@ use Rattle.law_devices.proofs.lemmas.declared_controls.Controls.{texts_name_endp
 use Rattle.law_devices.proofs.lemmas.declared_controls.Names.{control_zero}
 use Rattle.law_opened.specs.Opened.{IsOpened}
 use Rattle.law_world.specs.steps.receiving_runs.Runs.{KindOfLine}
-use Rattle.law_reports.specs.quiet.Heard.{HasControl, IsServed}
+use Rattle.law_reports.specs.quiet.Heard.{IsServed}
 
 pub kind_is : (kind : EpKind) → is_control kind ≡ true → kind ≡ kinds.Control
 kind_is kinds.Control is = refl

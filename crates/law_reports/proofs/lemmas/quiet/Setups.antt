@@ -16,7 +16,7 @@ use Rattle.drv_table.specs.Harvests.{note_at}
 use Rattle.drv_table.specs.Offers.{is_last}
 use Rattle.drv_table.specs.Words.{asks_in, data_stage, dummy_qtd, request_length, request_stages, setup_stage, status_stage}
 use Rattle.law_driver.specs.chained_transfers.Bulk.{stage_by}
-use Rattle.law_structures.specs.lent_structures.Structures.{Structure, QueueHead, Element}
+use Rattle.law_structures.specs.lent_structures.Structures.{QueueHead, Element}
 use Rattle.law_ring.specs.Together.{Item}
 use Rattle.law_driver_ring.specs.Pieces.{stage_qtd, with_buffer, qtd_items, buffer_items, lent_items}
 use Rattle.law_driver_ring.proofs.Lots.{IsItem, item_either}

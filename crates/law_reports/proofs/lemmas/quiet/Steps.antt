@@ -1,9 +1,8 @@
 -- Each event of the driver, and each command, leaves errors: what is new has three.
-use Rattle.std.proofs.Common.{◌≡◌, ◌≢◌, ℕ, suc, ◌*◌, ◌≤◌, Bool, true, false, List, [], ◌∷◌, length, slice_get, slice_set, ◌++◌, Option}
-use Rattle.std.proofs.Common.{Some, None, Result, Ok, Err, option_map, ap, refl, sym, subst, ◌∙◌, ⊎_elim, inl, inr, arith}
-use Rattle.std.specs.Prelude.{◌⊎◌, zero, is_none, if◌then◌else◌}
-use Rattle.std.proofs.lemmas.Bool.{cases_eq, true≢false}
-use Rattle.std.proofs.lemmas.Option.{same_Some}
+use Rattle.std.proofs.Common.{◌≡◌, ◌≢◌, ℕ, suc, ◌*◌, ◌≤◌, Bool, true, false, List, [], ◌∷◌, slice_set, ◌++◌, Option}
+use Rattle.std.proofs.Common.{Some, None, Result, Ok, Err, ap, refl, sym, subst, ◌∙◌, ⊎_elim, inl, inr, arith}
+use Rattle.std.specs.Prelude.{zero, is_none, if◌then◌else◌}
+use Rattle.std.proofs.lemmas.Bool.{true≢false}
 use Rattle.usb_base.specs.declared.commands.Cmd.{Cmd}
 use Rattle.usb_base.specs.declared.endpoints.EpName.{EpName}
 use Rattle.usb_base.specs.declared.reports.OfferError.{OfferError}
@@ -16,7 +15,6 @@ use Rattle.drv_table.specs.declared.content.Command.TheVariants as unfinished
 use Rattle.drv_table.specs.declared.content.QtdNote.{QtdNote}
 use Rattle.drv_table.specs.declared.content.Stage.{Stage}
 use Rattle.drv_table.specs.DriverContent.{DriverContent}
-use Rattle.drv_table.specs.Harvests.{note_at}
 use Rattle.drv_table.specs.Accepting.{Offered}
 use Rattle.drv_table.specs.Offers.{is_last, offered}
 use Rattle.drv_table.specs.CancelOffers.{with_cancel, endpoint_members}
@@ -25,16 +23,12 @@ use Rattle.drv_table.specs.Commands.{finished, leave_frames, no_command, or_fini
 use Rattle.drv_table.specs.declared.content.Endpoint.{Endpoint}
 use Rattle.drv_table.specs.Rows.{driver_row}
 use Rattle.drv_table.specs.Words.{dummy_qtd, to_queue_head}
-use Rattle.claims_driver.specs.Owners.{EndpointRuns, TransferRuns, runs_of_endpoint, runs_of_transfer, views_of}
+use Rattle.claims_driver.specs.Owners.{runs_of_endpoint, runs_of_transfer}
 use Rattle.law_driver.specs.queued_drivers.Queued.{queued, queued_command, queued_made}
 use Rattle.law_driver.specs.run_owners.Accepts.{Accepts, opens as accepts_open, chains, places, transfers, describes, cancels, unchains}
 use Rattle.law_driver.proofs.lemmas.run_owners.Commands.{each_command_has_its_reason}
-use Rattle.law_structures.specs.lent_structures.Structures.{QueueHead, Element, Structures, StructureSets, put}
-use Rattle.law_structures.proofs.lemmas.lent_structures.Names.{put_found}
-use Rattle.law_structures.proofs.lemmas.lent_structures.Altering.{found_queue}
+use Rattle.law_structures.specs.lent_structures.Structures.{QueueHead, Element, StructureSets, put}
 use Rattle.law_ring.specs.Hand.{Hand}
-use Rattle.law_ring.specs.QueueParts.{IsQueuePart}
-use Rattle.law_ring.specs.Fewer.{without_those}
 use Rattle.law_ring.specs.Stores.{hand_linked, hand_stale}
 use Rattle.law_frames.specs.FrameHand.{FrameHand, OfQueue, OfSettled, OfItd, OfSitd}
 use Rattle.law_frames.specs.FrameHand.FrameHand.{Nothing as NoneHeld}
@@ -55,14 +49,13 @@ use Rattle.law_queues.specs.lent_fronts.Stands.{parts_with}
 use Rattle.law_queues.specs.mended_heads.Mended.{IsAtMend, mended_by, head_at, parts_then as parts_mended}
 use Rattle.law_queues.specs.open_laws.Queues.{IsOpenToLend, parts_opened}
 use Rattle.law_queues.specs.publish_laws.Stores.{parts_then as parts_stored}
-use Rattle.law_queues.proofs.lemmas.fed_lends.Reports.{it_is_met}
 use Rattle.bus_world.specs.World.{World, driver_parts, driver_next, name_in, commanded_by, commanded}
 use Rattle.law_world.specs.memory.Mixed.{Standing, IsMixedAt, IsUnderWay}
-use Rattle.law_world.specs.memory.Steps.{HandStays, same_hand, linked_hand, FrameStays, same_frame, linked_frame, AreTold, HasBehind}
+use Rattle.law_world.specs.memory.Steps.{HandStays, same_hand, linked_hand, FrameStays, same_frame, linked_frame, AreTold}
 use Rattle.law_world.specs.memory.Steps.{IsNextStore, QueueStep, stays, harvests, returns, lends, stores, mends, begins, opens, unlinks}
 use Rattle.law_world.specs.memory.Steps.{narrows, goes}
 use Rattle.law_world.specs.memory.SameQueues.{IsRelinked}
-use Rattle.law_reports.specs.quiet.Errors.{Key, key_of, HasLeft, TokenHasLeft, PartHasLeft, HandHasLeft, PublishesLeft}
+use Rattle.law_reports.specs.quiet.Errors.{Key, key_of, TokenHasLeft, PartHasLeft, HandHasLeft, PublishesLeft}
 use Rattle.law_reports.proofs.lemmas.pipes.Across.{StaysOrEnds, row_command}
 use Rattle.law_reports.proofs.lemmas.pipes.NewHeads.{IsReadyHead, none_told, r as ready_head, one_queue, head_is}
 use Rattle.law_reports.proofs.lemmas.quiet.Writing.{head_put, element_put, part_fewer, without_left, linked_left, stale_left}

@@ -1,7 +1,7 @@
 -- The qTD whose token is read next, of a transfer that has no line yet, stands among the structures of its queue.
-use Rattle.std.proofs.Common.{◌≡◌, ◌≢◌, ℕ, suc, ◌-◌, ◌*◌, ◌<◌, ◌≤◌, Bool, true, false, cond, List, length, slice_get, Option, Some, None}
+use Rattle.std.proofs.Common.{◌≡◌, ◌≢◌, ℕ, suc, ◌-◌, ◌*◌, Bool, true, false, cond, List, length, slice_get, Option, Some, None}
 use Rattle.std.proofs.Common.{if◌then◌else◌, ap, refl, sym, subst, ◌∙◌, ⊎_elim, arith}
-use Rattle.std.specs.Prelude.{◌⊎◌, nat_eq}
+use Rattle.std.specs.Prelude.{nat_eq}
 use Rattle.std.proofs.lemmas.Bool.{cases_eq}
 use Rattle.std.proofs.lemmas.Option.{same_Some}
 use Rattle.law_common.proofs.Numbers.{other_number}

@@ -1,9 +1,9 @@
 -- The device of an interrupt endpoint at high speed has no NYET to answer: it is the endpoint of its line.
-use Rattle.std.proofs.Common.{◌≡◌, ℕ, zero, suc, ◌+◌, ◌==◌, cond, Bool, true, false, ◌&&◌, nat_lt, List, [], ◌∷◌, map, length, find, slice_get, Option}
+use Rattle.std.proofs.Common.{◌≡◌, ℕ, zero, suc, ◌+◌, ◌==◌, cond, Bool, false, ◌&&◌, nat_lt, List, [], ◌∷◌, map, length, find, slice_get, Option}
 use Rattle.std.proofs.Common.{Some, None, ap, refl, sym, subst, ◌∙◌, inl, inr}
 use Rattle.std.specs.List.{AllByRecursion, list_any, position, position_or_len}
 use Rattle.std.specs.Option.{option_map}
-use Rattle.std.proofs.lemmas.Bool.{cases_Bool, cond-true, cond-false, eq-eqb, eqb-true, true≢false}
+use Rattle.std.proofs.lemmas.Bool.{cases_Bool, cond-true, cond-false, eq-eqb}
 use Rattle.std.proofs.lemmas.List.{length-map}
 use Rattle.std.proofs.lemmas.Option.{same_Some, slice_get-map}
 use Rattle.law_common.proofs.Lists.{nth_all}
@@ -19,13 +19,12 @@ use Rattle.script_forms.specs.declared.statements.Name.{Name}
 use Rattle.script_text.specs.Faults.{Spells}
 use Rattle.script_world.specs.Draft.{Draft, Placed, device_of, device_text, is_named, same_way, script_of}
 use Rattle.endpoint_script.specs.declared.endpoint.Endpoint.{Endpoint}
-use Rattle.endpoint_script.specs.declared.endpoint.Role.TheVariants.{Takes}
-use Rattle.endpoint_script.specs.Device.{Device, is_way, place_named}
-use Rattle.bus_wire.specs.Bus.{Bus, Wired, fixed_of}
+use Rattle.endpoint_script.specs.Device.{is_way, place_named}
+use Rattle.bus_wire.specs.Bus.{Bus, fixed_of}
 use Rattle.claims_world.specs.Quiet.{is_nyet}
 use Rattle.law_ring.specs.OutBus.{Taker}
 use Rattle.law_devices.proofs.Common.{out_way}
-use Rattle.law_devices.proofs.Drafts.{AreApart, IsApart, addresses, IsDeclaredDraft, IsKnownDesc, IsNamedIn}
+use Rattle.law_devices.proofs.Drafts.{AreApart, IsApart, addresses, IsDeclaredDraft, IsKnownDesc}
 use Rattle.law_devices.proofs.Lists.{find_map, find_same, found_first}
 use Rattle.law_devices.proofs.Senders.{IsDeclaredAt, empty_declared, second_declared, line_declares}
 use Rattle.law_devices.proofs.Texts.{IsScriptOf, spelled_kept}

@@ -1,8 +1,6 @@
 -- At each moment of each script no token at high speed tells a missed microframe.
-use Rattle.std.proofs.Common.{◌≡◌, ◌≢◌, ℕ, ◌==◌, Bool, true, false, cond, List, Option, Some, None, ap, refl, sym, subst, ◌∙◌, ⊎_elim}
-use Rattle.std.proofs.lemmas.Bool.{false≢true, true≢false}
-use Rattle.usb_base.specs.declared.packets.Ask.{Ask}
-use Rattle.usb_base.specs.declared.packets.Reply.{Reply}
+use Rattle.std.proofs.Common.{◌≡◌, ℕ, Bool, true, false, Some, ap, refl, sym, subst, ◌∙◌, ⊎_elim}
+use Rattle.std.proofs.lemmas.Bool.{false≢true}
 use Rattle.script_types.specs.declared.scripts.Script.{Script}
 use Rattle.script_fits.proofs.Texts.{spelled_fits}
 use Rattle.bus_wire.specs.Bus.{Fixed, Wired, fixed_of}
@@ -26,9 +24,8 @@ use Rattle.law_frames.specs.FrameEffects.{frame_settlement, MakesOfQueue}
 use Rattle.law_controller.specs.controlled_streams.Control.{a_microframe, a_step}
 use Rattle.law_controller.specs.frame_control.Both.{RunsBoth, BothEffect, of_ring, of_frame}
 use Rattle.law_controller.specs.frame_control.Joined.{joined}
-use Rattle.law_descriptors.specs.Both.{both, owns, parts_now}
+use Rattle.law_descriptors.specs.Both.{both}
 use Rattle.law_descriptors.specs.Meeting.{met}
-use Rattle.law_descriptors.specs.PartLaws.{IsDescribing}
 use Rattle.law_descriptors.proofs.Rings.{other_off}
 use Rattle.law_descriptors.proofs.Standing.{both_off}
 use Rattle.law_descriptors.proofs.lemmas.queue_events.Beside.{beside}
@@ -36,7 +33,6 @@ use Rattle.law_driver_ring.specs.PartOpened.{empty_list, no_parts, list_parts, o
 use Rattle.law_structures.proofs.lemmas.lent_structures.Altering.{same_queue}
 use Rattle.law_structures.proofs.lemmas.lent_structures.Names.{put_found}
 use Rattle.law_scripts.proofs.lemmas.script_bytes.Texts.{a_text_spells_bytes}
-use Rattle.bus_world.specs.Opening.{opening_world}
 use Rattle.bus_world.specs.World.{World, controller_parts, driver_next, controller_next}
 use Rattle.law_world.specs.steps.Streaming.{begins_by, transacts_by, wired}
 use Rattle.law_world.specs.steps.receiving_runs.Runs.{IsKeptBy}
