@@ -65,6 +65,8 @@ SAYS = {
                     "that weren't refused so far; after the run with all of the script that weren't.",
     "ends": "Whatever a script opens: at each moment, and after the run, no line follows the one that tells the end of a bulk, interrupt or isochronous endpoint, and nothing of it is pending then.",
     "misses": "At each moment each line that tells a missed microframe is of an endpoint at low or full speed, whatever a script loses, holds and asks.",
+    "errors": "Where no line of a script loses or damages a packet between the controller and a hub or a device at high speed, and no interrupt endpoint at high speed ever answers with NYET: at each moment each line "
+              "that tells `halt error` is of an endpoint at low or full speed, whatever is lost below translators, and whatever the script holds, cancels and asks of hubs.",
     "requests": "Where a script opens high-speed bulk and control endpoints alone: at each moment a device that is no hub acted on each control request at most once, and on nothing but its setup bytes; "
                 "of an endpoint that isn't cancelled a request that is told done was acted on exactly once, with all its data, and one that halted tells a beginning of them.",
     "answers": "At each command of a script: it is refused for the first cause that stands, in the order busy, no endpoint, closed, already open, too long, no placement, no blocks (with the run of blocks that isn't there, and the longest that is), "
@@ -84,6 +86,7 @@ SAYS = {
     "nothing": "Where the input couldn't be read or memory was wanting, nothing is written.",
     "read": "The status is `ReadFault` exactly where a read failed.",
     "write": "The status is `WriteFault` exactly where a write failed.",
+    "finishes": "Where the words have a form, the input is one that it reads, and neither count of faults rose: the status is `Ok` and the whole output is written, or it is `Memory` and nothing is. So it is of `load`, if its own script is sound.",
 }
 INTRODUCTION = """# The theorem
 
@@ -108,8 +111,9 @@ def clauses():
             of, _, known_as = item.strip().partition(" as ")
             imports[known_as or of] = (row[1], of)
     contract = text.split("pub fn ehci<")[1].split("\n{")[0]
-    for row in re.finditer(r"ensures (\w+) \{ (.*) \}", contract):
-        yield row[1], row[2], [imports[it] for it in NAME.findall(row[2]) if it in imports]
+    for row in re.finditer(r"ensures (\w+) \{ (.*?) \}(?=\n    ensures|$)", contract, re.S):
+        said = " ".join(row[2].split())
+        yield row[1], said, [imports[it] for it in NAME.findall(said) if it in imports]
 
 
 def is_beside(definition):

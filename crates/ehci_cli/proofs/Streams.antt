@@ -12,11 +12,12 @@ use Rattle.claims_world.specs.HighStreams.{KeepsAllHighStreams}
 use Rattle.law_reports.proofs.lemmas.pipes.lemmas.puts.PaidMoments.{texts_keep_all_high_streams}
 use Rattle.bus_world.specs.Runs.{IsWholeRunOf}
 use Rattle.claims_world.specs.Misses.{MissesAreBelowThroughout}
+use Rattle.claims_world.specs.Quiet.{WhereHeardAbove, ErrorsAreBelowThroughout}
 use Rattle.claims_world.specs.Ends.{IsEndedOnce, EndsOnceThroughout, EndsOnce}
 use Rattle.app_forms.specs.Scripts.{OfEachScript}
 use Rattle.ehci_cli.proofs.Each.{of_each}
 use Rattle.law_reports.proofs.lemmas.lines.Ended.{texts_end_once}
-use Rattle.law_reports.proofs.lemmas.quiet.Lines.{texts_miss_below}
+use Rattle.law_reports.proofs.lemmas.quiet.Lines.{texts_miss_below, texts_fail_below}
 
 -- what is so of the report of each moment with no order left is so of that after the run
 module _ (so : WholeReport → Type 0) where
@@ -35,6 +36,10 @@ source_ends_once = of_each EndsOnce (λ text s spelled. ends s (texts_end_once t
 
 pub source_misses_below : (words : List (List ℕ)) (left : Option (List ℕ)) → OfEachScript MissesAreBelowThroughout words left
 source_misses_below = of_each MissesAreBelowThroughout texts_miss_below
+
+pub source_fails_below : (words : List (List ℕ)) (left : Option (List ℕ))
+    → OfEachScript (WhereHeardAbove ErrorsAreBelowThroughout) words left
+source_fails_below = of_each (WhereHeardAbove ErrorsAreBelowThroughout) texts_fail_below
 
 pub source_keeps_streams : (words : List (List ℕ)) (left : Option (List ℕ)) → OfEachScript KeepsAllHighStreams words left
 source_keeps_streams = of_each KeepsAllHighStreams texts_keep_all_high_streams

@@ -5,6 +5,7 @@ ghost use Rattle.claims_world.specs.Lent.{KeepsToLentThroughout};
 ghost use Rattle.claims_world.specs.Owned.{OwnsItsBlocksThroughout};
 ghost use Rattle.app_ends.specs.Ends.{IsFault, IsWriteFault, WritesNothing};
 ghost use Rattle.app_ends.specs.Input.{input_of};
+ghost use Rattle.app_forms.specs.Finished.{Finishes};
 ghost use Rattle.app_forms.specs.Form.{AreWordsOf, AreNoForm};
 ghost use Rattle.bus_world.specs.Runs.{IsWholeRunOf};
 ghost use Rattle.app_forms.specs.Output.{IsLoad, IsProgram, Leaves};
@@ -30,6 +31,7 @@ ghost use Rattle.claims_world.specs.Scripts.{WhereAsynchronous};
 ghost use Rattle.claims_world.specs.HighStreams.{KeepsAllHighStreams};
 ghost use Rattle.claims_world.specs.Ends.{EndsOnce};
 ghost use Rattle.claims_world.specs.Misses.{MissesAreBelowThroughout};
+ghost use Rattle.claims_world.specs.Quiet.{WhereHeardAbove, ErrorsAreBelowThroughout};
 ghost use Rattle.claims_world.specs.Heard.{HearsThroughout};
 ghost use Rattle.claims_world.specs.Pending.{PendingIsCounted};
 ghost use Rattle.claims_world.specs.Refused.{CommandsHaveCauses};
@@ -54,6 +56,9 @@ use usb_base::{Sink, Source};
 /// - `WriteFault` exactly where a write failed, which is the last one: the sink's count of faults rose by one. A front part of
 ///   the output is written.
 /// - `Memory` only before the first write.
+///
+/// Where the words have a form, the input is one that it reads, and neither count of faults rises, it ends with `Ok` and the whole output
+/// is written, or with `Memory`.
 ///
 /// What the clauses after `output` say is said of the table machine over the script that the input spells, and, for `load`, over the
 /// one that is drawn from the number; `output` and `load` say that what is printed is the report of its whole run, or what that counts.
@@ -127,6 +132,8 @@ use usb_base::{Sink, Source};
 ///
 /// Whatever the script opens, no line follows the one that tells the end of a bulk, interrupt or isochronous endpoint, and nothing of it is
 /// pending then, at each moment and after the run. No line tells a missed microframe of an endpoint at high speed.
+/// Where no `fate` loses or damages a packet between the controller and a hub or a device at high speed, and no interrupt endpoint at high
+/// speed answers with NYET, no line tells `halt error` of an endpoint at high speed, whatever the script holds, cancels and asks of hubs.
 ///
 /// Where the script opens high-speed bulk and control endpoints only, at each moment each device but a hub acted at most once on each
 /// control request, and only on its setup bytes; of an endpoint that isn't cancelled the report tells of its requests in their order: a
@@ -184,6 +191,7 @@ pub fn ehci<S: Source, K: Sink>(
     ensures streams { OfEachScript KeepsAllHighStreams (map string_bytes words.now) (S.left source.old) }
     ensures ends { OfEachScript EndsOnce (map string_bytes words.now) (S.left source.old) }
     ensures misses { OfEachScript MissesAreBelowThroughout (map string_bytes words.now) (S.left source.old) }
+    ensures errors { OfEachScript (WhereHeardAbove ErrorsAreBelowThroughout) (map string_bytes words.now) (S.left source.old) }
     ensures requests { OfEachScript (WhereAsynchronous KeepsRequests) (map string_bytes words.now) (S.left source.old) }
     ensures answers { OfEachScript CommandsHaveCauses (map string_bytes words.now) (S.left source.old) }
     ensures hears { OfEachScript HearsThroughout (map string_bytes words.now) (S.left source.old) }
@@ -194,6 +202,14 @@ pub fn ehci<S: Source, K: Sink>(
     ensures nothing { WritesNothing result → sink.new ≡ sink.old }
     ensures read { IsFault result (S.faults source.old) (S.faults source.new) }
     ensures write { IsWriteFault result (K.faults sink.old) (K.faults sink.new) }
+    ensures finishes { Finishes IsWholeRunOf (map string_bytes words.now) result
+        (record {
+          read_before = S.faults source.old;
+          read_after = S.faults source.new;
+          written_before = K.faults sink.old;
+          written_after = K.faults sink.new;
+        })
+        (S.left source.old) (K.written sink.old) (K.written sink.new) }
 {
     ehci_machine(alloc, words, source, sink)
 }

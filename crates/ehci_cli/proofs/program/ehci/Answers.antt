@@ -3,10 +3,11 @@ use Rattle.ehci_cli.proofs.Causes.{source_has_causes, source_is_heard, source_re
 use Rattle.ehci_cli.proofs.Memory.{source_keeps_memory, source_reaches_lent, source_keeps_to_owners, source_gives_back_last, source_leaves_what_is_back}
 use Rattle.ehci_cli.proofs.Memory.{source_keeps_links}
 use Rattle.ehci_cli.proofs.Requests.{source_keeps_requests}
-use Rattle.ehci_cli.proofs.Streams.{source_ends_once, source_misses_below, source_keeps_streams}
+use Rattle.ehci_cli.proofs.Streams.{source_ends_once, source_misses_below, source_fails_below, source_keeps_streams}
 use Rattle.ehci_cli.proofs.Visits.{source_keeps_visits, source_pays_within_load, source_is_in_time, source_ends_microframes, source_keeps_due, source_does_slots, source_keeps_to_work, source_repeats_after_losses}
 use Rattle.ehci_cli.proofs.Visits.{source_does_what_is_due_at_begin, source_does_slots_at_begin, source_keeps_translators}
-use Rattle.ehci_cli.proofs.Whole.{whole_load}
+use Rattle.app_forms.proofs.Finished.{finishes}
+use Rattle.ehci_cli.proofs.Whole.{whole_load, whole_program}
 use Rattle.ehci_cli.proofs.program.ehci.Goals as goal
 
 pub returns-clause-load : goal.returns-clause-load
@@ -84,6 +85,9 @@ returns-clause-ends g c = source_ends_once _ _
 pub returns-clause-misses : goal.returns-clause-misses
 returns-clause-misses g c = source_misses_below _ _
 
+pub returns-clause-errors : goal.returns-clause-errors
+returns-clause-errors g c = source_fails_below _ _
+
 pub returns-clause-requests : goal.returns-clause-requests
 returns-clause-requests g c = source_keeps_requests _ _
 
@@ -101,3 +105,8 @@ returns-clause-lines g c = source_tells_for_reasons _ _
 
 pub returns-clause-pending : goal.returns-clause-pending
 returns-clause-pending g c = source_counts_pending _ _
+
+pub returns-clause-finishes : goal.returns-clause-finishes
+returns-clause-finishes g c =
+    let ends = c.ehci_machine.ensures in
+    finishes _ _ _ _ _ _ (λ is. ends.words.0 is) ends.read ends.write _ (whole_program _ _ _ _ _ ends.output) (whole_load _ _ _ _ ends.load)
