@@ -1,6 +1,6 @@
 -- No event of the driver and no command changes what a copy in hand goes on to (EHCI 1.0, 4.10.2): the token of a qTD that is active is the
 -- controller's.
-use Rattle.std.proofs.Common.{◌≡◌, ◌≢◌, ℕ, ◌+◌, ◌%◌, false, ap, refl, sym, ◌∙◌, ⊎_elim, arith}
+use Rattle.std.proofs.Common.{◌≡◌, ◌≢◌, ℕ, ◌+◌, ◌%◌, false, Some, None, ap, refl, sym, ◌∙◌, ⊎_elim, arith}
 use Rattle.std.proofs.lemmas.Bool.{cases_eq}
 use Rattle.law_microframes.proofs.Common.{frame_row}
 use Rattle.usb_base.specs.declared.endpoints.EpName.{EpName}
@@ -16,7 +16,9 @@ use Rattle.hc_interrupt.specs.declared.turns.Turn.TheVariants as turns
 use Rattle.hc_interrupt.specs.Turns.{microframe_of, turn_of}
 use Rattle.hc_masks.specs.Masks.{has}
 use Rattle.periodic_walk.specs.declared.state.Hand.TheVariants as hands
+use Rattle.periodic_walk.specs.declared.state.HeldQueue.{HeldQueue}
 use Rattle.hc_core.specs.declared.controller.ControllerRow.TheVariants as rows
+use Rattle.hc_core.specs.declared.controller.MicroframePart.TheVariants.{Periodic}
 use Rattle.hc_core.specs.Controller.{Control, frame_place}
 use Rattle.bus_wire.specs.Bus.{Bus, Fixed, is_held as may_not_be_used}
 use Rattle.bus_world.specs.World.{World, controller_parts, controller_row}
@@ -40,47 +42,60 @@ pub record IsAside (w later : World) : Type 0 where
   pub bus : later.bus ≡ w.bus
   pub leaves : LeavesControllers (controller_parts w) later.memory
 
+-- what the copy of a queue head in hand goes on to, where that is what it takes in this microframe
+module _ (fixed : Fixed) (w later : World) (k : IsMixedWorld w) (aside : IsAside w later) (h : HeldQueue)
+    (periodic : w.control.part ≡ Periodic) (hand : w.control.frame.hand ≡ Some (hands.Queue h)) (fresh : h.copy.settled ≡ None)
+    (takes : (a : ℕ) → h.copy.queue_head.token.active ≡ false → h.copy.queue_head.token.halted ≡ false
+    → qtd_link_of (next_pointer h.copy.queue_head) ≡ qtd_links.To a
+    → turn_of w.control.frame.index h.copy.queue_head ≡ turns.Take (qtd_links.To a)) where
+  abbrev q : Qh
+  q = h.copy.queue_head
+
+  module _ (a : ℕ) (t : Qtd) (idle : q.token.active ≡ false) (unhalted : q.token.halted ≡ false)
+      (leads : qtd_link_of (next_pointer q) ≡ qtd_links.To a)
+      (aligned : a % 4 ≡ 0) (word : token_at (word_at w.memory (a + 8)) ≡ t.token) (work : IsActiveToken t.token) where
+    row : controller_row w ≡ rows.Frame
+    row = frame_row w (hands.Queue h) k periodic hand
+
+    found : IsThere (frame_place (controller_parts w)) h hand (no_fault fixed w row k) fresh a (takes a idle unhalted leads)
+    found = is_there (frame_place (controller_parts w)) h hand (no_fault fixed w row k) fresh a (takes a idle unhalted leads)
+
+    -- the controller comes to it
+    comes : Reaches (controller_parts w) (QtdAt a)
+    comes =
+        of_queue h.copy.at q (QtdAt a)
+        (held (QueueAt h.copy.at) (held_link (hands.Queue h)) (of_frame (hands.Queue h) periodic hand refl refl))
+        (in_frame h periodic hand fresh refl refl)
+        (taken unhalted idle (ap leads_to_qtd leads))
+
+    its : IsControllers (controller_parts w) (a + 8)
+    its =
+        of_token a found.qtd comes found.here
+        (ap (λ (x : Token). x.active) (sym (its_token w.memory a found.qtd found.here) ∙ word) ∙ work.active) refl
+
+    same_word : word_at later.memory (a + 8) ≡ word_at w.memory (a + 8)
+    same_word =
+        ⊎_elim (λ (same : word_at later.memory (a + 8) ≡ word_at w.memory (a + 8)). same)
+        (λ (differs : word_at later.memory (a + 8) ≢ word_at w.memory (a + 8)). absurd
+        (aside.leaves (a + 8) (omega (arith, aligned)) differs its))
+        (cases_eq (word_at later.memory (a + 8)) (word_at w.memory (a + 8)))
+
+  pub goes_still : (v : Qh) → GoesTo w.memory h.copy.queue_head v → GoesTo later.memory h.copy.queue_head v
+  goes_still _ (to_itself work) = to_itself work
+  goes_still _ (to_qtd a t idle unhalted leads aligned word work) =
+      to_qtd a t idle unhalted leads aligned (ap token_at (same_word a t idle unhalted leads aligned word work) ∙ word) work
+
 module _ (fixed : Fixed) (w later : World) (k : IsMixedWorld w) (aside : IsAside w later) (n u : ℕ) (name : EpName) (bytes : ℕ) where
   module _ (s : IsHeldAt fixed w n u name bytes) where
-    abbrev q : Qh
-    q = s.held.copy.queue_head
+    abbrev its_queue : Qh
+    its_queue = s.held.copy.queue_head
 
-    module _ (a : ℕ) (t : Qtd) (idle : q.token.active ≡ false) (unhalted : q.token.halted ≡ false)
-        (leads : qtd_link_of (next_pointer q) ≡ qtd_links.To a)
-        (aligned : a % 4 ≡ 0) (word : token_at (word_at w.memory (a + 8)) ≡ t.token) (work : IsActiveToken t.token) where
-      row : controller_row w ≡ rows.Frame
-      row = frame_row w (hands.Queue s.held) k s.periodic s.hand
-
-      turn : turn_of w.control.frame.index q ≡ turns.Take (qtd_links.To a)
-      turn = turn_is w.control.frame.index q false s.queue.high (ap (has q.smask) s.index ∙ s.queue.bit) unhalted idle ∙ ap turns.Take leads
-
-      found : IsThere (frame_place (controller_parts w)) s.held s.hand (no_fault fixed w row k) s.fresh a turn
-      found = is_there (frame_place (controller_parts w)) s.held s.hand (no_fault fixed w row k) s.fresh a turn
-
-      -- the controller comes to it
-      comes : Reaches (controller_parts w) (QtdAt a)
-      comes =
-          of_queue s.held.copy.at q (QtdAt a)
-          (held (QueueAt s.held.copy.at) (held_link (hands.Queue s.held)) (of_frame (hands.Queue s.held) s.periodic s.hand refl refl))
-          (in_frame s.held s.periodic s.hand s.fresh refl refl)
-          (taken unhalted idle (ap leads_to_qtd leads))
-
-      its : IsControllers (controller_parts w) (a + 8)
-      its =
-          of_token a found.qtd comes found.here
-          (ap (λ (x : Token). x.active) (sym (its_token w.memory a found.qtd found.here) ∙ word) ∙ work.active) refl
-
-      same_word : word_at later.memory (a + 8) ≡ word_at w.memory (a + 8)
-      same_word =
-          ⊎_elim (λ (same : word_at later.memory (a + 8) ≡ word_at w.memory (a + 8)). same)
-          (λ (differs : word_at later.memory (a + 8) ≢ word_at w.memory (a + 8)). absurd
-          (aside.leaves (a + 8) (omega (arith, aligned)) differs its))
-          (cases_eq (word_at later.memory (a + 8)) (word_at w.memory (a + 8)))
-
-    goes_still : (v : Qh) → GoesTo w.memory q v → GoesTo later.memory q v
-    goes_still _ (to_itself work) = to_itself work
-    goes_still _ (to_qtd a t idle unhalted leads aligned word work) =
-        to_qtd a t idle unhalted leads aligned (ap token_at (same_word a t idle unhalted leads aligned word work) ∙ word) work
+    turn : (a : ℕ) → its_queue.token.active ≡ false → its_queue.token.halted ≡ false
+        → qtd_link_of (next_pointer its_queue) ≡ qtd_links.To a
+        → turn_of w.control.frame.index its_queue ≡ turns.Take (qtd_links.To a)
+    turn a idle unhalted leads =
+        turn_is w.control.frame.index its_queue false s.queue.high (ap (has its_queue.smask) s.index ∙ s.queue.bit) unhalted idle
+        ∙ ap turns.Take leads
 
     held_still : IsHeldAt fixed later n u name bytes
     held_still = record {
@@ -93,7 +108,7 @@ module _ (fixed : Fixed) (w later : World) (k : IsMixedWorld w) (aside : IsAside
       queue = s.queue;
       free = ap (λ (b : Bus). may_not_be_used fixed.holds b.microframe) aside.bus ∙ s.free;
       works = s.works;
-      goes = goes_still s.works s.goes;
+      goes = goes_still fixed w later k aside s.held s.periodic s.hand s.fresh turn s.works s.goes;
       can = ready_as fixed w.bus later.bus name s.works s.works bytes (sym aside.bus) refl refl s.can;
       pid = s.pid;
     }

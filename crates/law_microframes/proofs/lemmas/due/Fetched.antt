@@ -36,9 +36,8 @@ use Rattle.periodic_walk.specs.Rows.{step_at, effect_at}
 use Rattle.hc_core.specs.declared.controller.ControllerRow.TheVariants as rows
 use Rattle.hc_core.specs.declared.controller.MicroframePart.TheVariants.{Periodic}
 use Rattle.hc_core.specs.Controller.{part_after, frame_place, frame_step}
-use Rattle.bus_wire.specs.Bus.{Fixed}
+use Rattle.bus_wire.specs.Bus.{Bus, Fixed, is_held as may_not_be_used}
 use Rattle.bus_world.specs.World.{World, frame_by, framed, controller_parts, with_turned, controller_row, controller_next}
-use Rattle.claims_world.specs.Visits.{is_held_now}
 use Rattle.law_world.specs.memory.Mixed.{IsMixedWorld}
 use Rattle.law_microframes.specs.visits.Belonging.{a_queue, HaveFields, HeadsHaveFields}
 use Rattle.law_microframes.proofs.lemmas.visits.BelongQueues.{alive, belongs_by}
@@ -67,7 +66,7 @@ sitd_by : (a : ℕ) (o : Option Sitd) (c : ℕ) (q : Qh) → sitd_fetch a o ≡ 
 sitd_by a None c q is = cc
 sitd_by a (Some x) c q is = cc
 
-chain_by : (m : Mem) (link : Link) (c : ℕ) (q : Qh) → chain_row m link ≡ chains.Queue c q
+pub chain_by : (m : Mem) (link : Link) (c : ℕ) (q : Qh) → chain_row m link ≡ chains.Queue c q
     → (link ≡ links.Qh c) × (queue_head_at_address m c ≡ Some q)
 chain_by m links.End c q is = absurd cc
 chain_by m (links.Itd a) c q is = absurd (itd_by a (itd_at_address m a) c q is)
@@ -81,13 +80,55 @@ read_at : (m : Mem) (b : Bool) (o : Option Qh) (q : Qh) → (if b then o else No
 read_at m true o q is = refl
 read_at m false o q is = absurd cc
 
-head_read_same : (m : Mem) (a : ℕ) (q : Qh) → queue_head_at_address m a ≡ Some q → queue_head_was_read m a ≡ m
+pub head_read_same : (m : Mem) (a : ℕ) (q : Qh) → queue_head_at_address m a ≡ Some q → queue_head_was_read m a ≡ m
 head_read_same m a q is = read_at m (reaches_queue_head m a) (result_ok (qh_read (words_at m a 12))) q is
 
-comes_goes : (m : Mem) (n : ℕ) (q v : Qh) → queue_head_at_address m n ≡ Some q → ComesTo m q v → GoesTo m q v
+pub comes_goes : (m : Mem) (n : ℕ) (q v : Qh) → queue_head_at_address m n ≡ Some q → ComesTo m q v → GoesTo m q v
 comes_goes m n q _ read (goes_on work) = to_itself work
 comes_goes m n q _ read (takes a t idle unhalted leads here work) =
     to_qtd a t idle unhalted leads (element_aligned m n q a read leads) (its_token m a t here) work
+
+-- ---- what the fetch of a queue head leaves
+
+pub record HasFetched (w later : World) (a : ℕ) (q : Qh) : Type 0 where
+  pub read : queue_head_at_address w.memory a ≡ Some q
+  pub memory : later.memory ≡ w.memory
+  pub bus : later.bus ≡ w.bus
+  pub part : later.control.part ≡ Periodic
+  pub hand : later.control.frame.hand
+      ≡ Some (hands.Queue (record { copy = record { at = a; queue_head = q; settled = None }; made = 0 }))
+  pub index : later.control.frame.index ≡ w.control.frame.index
+
+module _ (fixed : Fixed) (w : World) (row : controller_row w ≡ rows.Frame) (none : w.control.frame.hand ≡ None) (a : ℕ) (q : Qh)
+    (chain : chain_row w.memory w.control.frame.cursor ≡ chains.Queue a q) where
+  abbrev p : FramePlace
+  p = frame_place (controller_parts w)
+
+  link : (w.control.frame.cursor ≡ links.Qh a) × (queue_head_at_address w.memory a ≡ Some q)
+  link = chain_by w.memory w.control.frame.cursor a q chain
+
+  abbrev place : FramePlace
+  place = chain_after (chains.Queue a q) (reading (chain_read w.memory w.control.frame.cursor) p)
+
+  fetches : frame_step (controller_parts w) ≡ walks.Fetch
+  fetches = ap (step_at p) none ∙ ap chain_step chain
+
+  next : controller_next fixed w ≡ with_turned w (framed (controller_parts w) (record { place = place; bus = w.bus }))
+  next =
+      walked_to fixed w row (record { place = place; bus = w.bus })
+      (ap (λ (f : Effect). frame_by fixed f w.bus)
+      (ap (effect_at p) none
+      ∙ ap (λ (r : ChainRow). Leaves (chain_after r (reading (chain_read w.memory w.control.frame.cursor) p))) chain))
+
+  pub has_fetched : HasFetched w (controller_next fixed w) a q
+  has_fetched = record {
+    read = link.1;
+    memory = ap (λ (v : World). v.memory) next ∙ ap (chain_read w.memory) link.0 ∙ head_read_same w.memory a q link.1;
+    bus = ap (λ (v : World). v.bus) next;
+    part = ap (λ (v : World). v.control.part) next ∙ ap (part_after Periodic) fetches;
+    hand = ap (λ (v : World). v.control.frame.hand) next;
+    index = ap (λ (v : World). v.control.frame.index) next;
+  }
 
 -- ---- it is the queue head of its endpoint
 
@@ -122,31 +163,14 @@ module _ (fixed : Fixed) (w : World) (k : IsMixedWorld w) (heads : HeadsHaveFiel
 
   module _ (row : controller_row w ≡ rows.Frame) (none : w.control.frame.hand ≡ None) (a : ℕ) (q : Qh)
       (chain : chain_row w.memory w.control.frame.cursor ≡ chains.Queue a q) (at : a ≡ 32 * b) where
-    abbrev p : FramePlace
-    p = frame_place (controller_parts w)
-
-    link : (w.control.frame.cursor ≡ links.Qh a) × (queue_head_at_address w.memory a ≡ Some q)
-    link = chain_by w.memory w.control.frame.cursor a q chain
-
-    abbrev place : FramePlace
-    place = chain_after (chains.Queue a q) (reading (chain_read w.memory w.control.frame.cursor) p)
-
-    fetches : frame_step (controller_parts w) ≡ walks.Fetch
-    fetches = ap (step_at p) none ∙ ap chain_step chain
-
-    next : controller_next fixed w ≡ with_turned w (framed (controller_parts w) (record { place = place; bus = w.bus }))
-    next =
-        walked_to fixed w row (record { place = place; bus = w.bus })
-        (ap (λ (f : Effect). frame_by fixed f w.bus)
-        (ap (effect_at p) none
-        ∙ ap (λ (r : ChainRow). Leaves (chain_after r (reading (chain_read w.memory w.control.frame.cursor) p))) chain))
+    fetched : HasFetched w (controller_next fixed w) a q
+    fetched = has_fetched fixed w row none a q chain
 
     memory_same : (controller_next fixed w).memory ≡ w.memory
-    memory_same =
-        ap (λ (v : World). v.memory) next ∙ ap (chain_read w.memory) link.0 ∙ head_read_same w.memory a q link.1
+    memory_same = fetched.memory
 
     head_there : queue_head_at_address w.memory (32 * b) ≡ Some q
-    head_there = ap (queue_head_at_address w.memory) (sym at) ∙ link.1
+    head_there = ap (queue_head_at_address w.memory) (sym at) ∙ fetched.read
 
     same_head : due.transfer.queue ≡ q
     same_head = same_Some due.transfer.queue q (sym due.transfer.read ∙ head_there)
@@ -155,13 +179,13 @@ module _ (fixed : Fixed) (w : World) (k : IsMixedWorld w) (heads : HeadsHaveFiel
     held = record { copy = record { at = a; queue_head = q; settled = None }; made = 0 }
 
     part_is : (controller_next fixed w).control.part ≡ Periodic
-    part_is = ap (λ (v : World). v.control.part) next ∙ ap (part_after Periodic) fetches
+    part_is = fetched.part
 
     hand_is : (controller_next fixed w).control.frame.hand ≡ Some (hands.Queue held)
-    hand_is = ap (λ (v : World). v.control.frame.hand) next
+    hand_is = fetched.hand
 
     index_is : (controller_next fixed w).control.frame.index ≡ w.control.frame.index
-    index_is = ap (λ (v : World). v.control.frame.index) next
+    index_is = fetched.index
 
     -- its PID is that of its endpoint's way, and so is that of the qTD to which it goes on
     goes_by : GoesBy (controller_next fixed w).driver held.copy.at (way_of due.there.endpoint)
@@ -210,12 +234,12 @@ module _ (fixed : Fixed) (w : World) (k : IsMixedWorld w) (heads : HeadsHaveFiel
       at = at;
       fresh = refl;
       queue = its_queue q head_there;
-      free = ap (λ (v : World). is_held_now fixed v) next ∙ due.free;
+      free = ap (λ (c : Bus). may_not_be_used fixed.holds c.microframe) fetched.bus ∙ due.free;
       works = due.transfer.works;
       goes = subst (λ (m : Mem). GoesTo m q due.transfer.works) (sym memory_same)
           (comes_goes w.memory (32 * b) q due.transfer.works head_there its_transfer);
       can = ready_as fixed w.bus (controller_next fixed w).bus due.there.endpoint.desc.name due.transfer.works due.transfer.works
-          (bytes_moved due.transfer.ready.answers) (sym (ap (λ (v : World). v.bus) next)) refl refl
+          (bytes_moved due.transfer.ready.answers) (sym fetched.bus) refl refl
           (record { ready = due.transfer.ready; moves = refl });
       pid = pid_by due.transfer.works its_transfer;
     }

@@ -90,7 +90,7 @@ no_itd Periodic (Some (hands.Sitd h)) ds k = refl
 no_itd Asynchronous hand ds k = refl
 no_itd Over hand ds k = refl
 
-map_all : (P Q : FramePlace → Type 0) (e : Effect) → ((q : FramePlace) → P q → Q q) → AllPlaces P e → AllPlaces Q e
+pub map_all : (P Q : FramePlace → Type 0) (e : Effect) → ((q : FramePlace) → P q → Q q) → AllPlaces P e → AllPlaces Q e
 map_all P Q (Leaves q) to all = to q all
 map_all P Q (Asks ask out left_by) to all = λ reply. to (left_by reply) (all reply)
 

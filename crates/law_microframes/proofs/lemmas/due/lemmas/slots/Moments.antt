@@ -30,7 +30,7 @@ command_goes_on fixed w other t again control bus all free few =
     all (ap (λ (b : Bus). is_held_now fixed (record w { bus = b })) (sym bus) ∙ free) few
     ∙ ap (λ (c : Control). with_part c.part c.frame.hand t.done) (sym control)
 
-known_at : (text : List ℕ) (s : Script) → Spells text s → (k : ℕ) → IsKnown (fixed_of s) (moment s k).world (repeats s k)
+pub known_at : (text : List ℕ) (s : Script) → Spells text s → (k : ℕ) → IsKnown (fixed_of s) (moment s k).world (repeats s k)
 known_at text s spelled k = record {
   mixed = texts_stay_mixed text s spelled k;
   timely = (texts_are_in_time text s spelled).each k;

@@ -39,7 +39,7 @@ AreServed fixed w t again = is_held_now fixed w ≡ false → again ≤ 4000000
 
 -- ---- places
 
-at_place : (P : FramePlace → Type 0) (fixed : Fixed) (e : Effect) (b : Bus) → AllPlaces P e → P (frame_by fixed e b).place
+pub at_place : (P : FramePlace → Type 0) (fixed : Fixed) (e : Effect) (b : Bus) → AllPlaces P e → P (frame_by fixed e b).place
 at_place P fixed (Leaves q) b all = all
 at_place P fixed (Asks ask out left_by) b all = all _
 
