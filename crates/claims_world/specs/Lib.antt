@@ -24,6 +24,7 @@ pub mod Coming
 pub mod Due
 pub mod DueAtBegin
 pub mod SlotsAtBegin
+pub mod Sitds
 pub mod Unfinished
 pub mod Slots
 pub mod Losses

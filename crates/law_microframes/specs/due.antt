@@ -2,3 +2,4 @@ pub mod Laws
 pub mod Samples
 pub mod slots
 pub mod repeats
+pub mod sitds

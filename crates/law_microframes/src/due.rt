@@ -5,6 +5,8 @@
 //! - `repeats`: complete-splits that are made again at once, which happens only after a loss (EHCI 1.0, 4.12.2.4.2; USB 2.0, 8.5, 11.20 and
 //!   11.21).
 //! - `repeats_worked`: worked rows of a keyboard's complete-split (EHCI 1.0, 4.12.2.4.2).
+//! - `sitds`: each transaction of a split isochronous transfer descriptor is made in its microframe (EHCI 1.0, 3.4 and 4.12.3).
+//! - `sitds_worked`: worked rows of a speaker's parts and a microphone's splits.
 //! - `slots`: each slot of an isochronous transfer descriptor is done in its microframe: what the walk of the frames fetches with an active
 //!   slot has its transactions, and is written back (EHCI 1.0, 3.3.2, 4.4, 4.6, 4.7.1 and 4.10.3; USB 2.0, 5.6.4).
 //! - `slots_worked`: worked rows of a microphone's slot.
@@ -16,6 +18,8 @@
 pub mod due;
 pub mod repeats;
 pub mod repeats_worked;
+pub mod sitds;
+pub mod sitds_worked;
 pub mod slots;
 pub mod slots_worked;
 pub mod words;

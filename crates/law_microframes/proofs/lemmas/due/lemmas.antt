@@ -1,2 +1,3 @@
 pub mod slots
 pub mod repeats
+pub mod sitds

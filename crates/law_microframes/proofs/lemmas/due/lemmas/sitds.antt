@@ -1,0 +1,4 @@
+pub mod Events
+pub mod Worlds
+pub mod Moments
+pub mod Sampled

@@ -1,0 +1,2 @@
+pub mod SitdLaws
+pub mod Samples
