@@ -24,6 +24,8 @@ pub mod Coming
 pub mod Due
 pub mod DueAtBegin
 pub mod SlotsAtBegin
+pub mod QueuesMade
+pub mod SplitsAtBegin
 pub mod Sitds
 pub mod Unfinished
 pub mod Slots

@@ -3,3 +3,5 @@ pub mod Samples
 pub mod Stored
 pub mod Unfinished
 pub mod Framed
+pub mod Splits
+pub mod SplitSamples

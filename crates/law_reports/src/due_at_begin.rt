@@ -5,6 +5,8 @@
 //! - `framed`: What was in the frame list as a frame began stays there.
 //! - `slots`: Each slot of an isochronous transfer descriptor that was due as its microframe began is done too.
 //! - `slots_worked`: Worked rows of a microphone.
+//! - `splits`: Each start-split and each complete-split of an interrupt endpoint that was due as its microframe began is made in it.
+//! - `splits_worked`: Worked rows of a keyboard behind a hub.
 //! - `stored`: What was asked of an isochronous endpoint for a frame is due in it.
 //! - `unfinished`: Where a transfer of an interrupt endpoint is unfinished a transaction of it is due.
 //! - `worked`: Worked rows of a keyboard.
@@ -15,6 +17,8 @@ pub mod due;
 pub mod framed;
 pub mod slots;
 pub mod slots_worked;
+pub mod splits;
+pub mod splits_worked;
 pub mod stored;
 pub mod unfinished;
 pub mod worked;

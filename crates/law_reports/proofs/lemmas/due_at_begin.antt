@@ -20,3 +20,8 @@ pub mod SlotStored
 pub mod SlotMoments
 pub mod SlotSampled
 pub mod Unfinished
+pub mod SplitTurns
+pub mod SplitStages
+pub mod SplitMoments
+pub mod SplitDue
+pub mod SplitSampled

@@ -203,12 +203,12 @@ module _ (text : List ℕ) (s : Script) (spelled : Spells text s) where
   abbrev fixed : Fixed
   fixed = fixed_of s
 
-  heads_at : (k : ℕ) → HeadsHaveFields (moment s k).world.driver (moment s k).world.memory
+  pub heads_at : (k : ℕ) → HeadsHaveFields (moment s k).world.driver (moment s k).world.memory
   heads_at k =
       scripts_keep_fields s (spelled_fits text s spelled) (a_text_spells_bytes text s spelled)
       (lines_fit s.lines (texts_fit text s spelled) (texts_open_fitting text s spelled)) k
 
-  known_at : (k : ℕ) → IsKnown (fixed_of s) (sides_of s) (began s k) (moment s k).world (so_far s k)
+  pub known_at : (k : ℕ) → IsKnown (fixed_of s) (sides_of s) (began s k) (moment s k).world (so_far s k)
   known_at k = record {
     followed = texts_are_followed text s spelled k;
     mixed = texts_stay_mixed text s spelled k;
@@ -219,14 +219,14 @@ module _ (text : List ℕ) (s : Script) (spelled : Spells text s) where
     comes = λ e q p past was is active. texts_come_to_each text s spelled k e q p past was is active;
   }
 
-  mixed_then : (k : ℕ) → IsMixedWorld (tick_at (fixed_of s) (moment s k).world (moment s k).orders).world
+  pub mixed_then : (k : ℕ) → IsMixedWorld (tick_at (fixed_of s) (moment s k).world (moment s k).orders).world
   mixed_then k = subst (λ (o : OrderedWorld). IsMixedWorld o.world) (moment_then s k) (texts_stay_mixed text s spelled (suc k))
 
-  heads_then_at : (k : ℕ) → HeadsHaveFields (tick_at (fixed_of s) (moment s k).world (moment s k).orders).world.driver
+  pub heads_then_at : (k : ℕ) → HeadsHaveFields (tick_at (fixed_of s) (moment s k).world (moment s k).orders).world.driver
       (tick_at (fixed_of s) (moment s k).world (moment s k).orders).world.memory
   heads_then_at k = subst (λ (o : OrderedWorld). HeadsHaveFields o.world.driver o.world.memory) (moment_then s k) (heads_at (suc k))
 
-  owned_at : (k : ℕ) → KeepsToOwners (is_controllers (moment s k).orders) (controller_parts (moment s k).world)
+  pub owned_at : (k : ℕ) → KeepsToOwners (is_controllers (moment s k).orders) (controller_parts (moment s k).world)
       (tick_at (fixed_of s) (moment s k).world (moment s k).orders).world.memory
   owned_at k =
       subst (λ (o : OrderedWorld). KeepsToOwners (is_controllers (moment s k).orders) (controller_parts (moment s k).world) o.world.memory)

@@ -71,7 +71,7 @@ module _ (n : ℕ) (w : World) (fs : List (ℕ × World)) where
   too_unfound (Some a) off none o (inl new) = off (ap Some new.0)
   too_unfound (Some a) off none o (inr old) = none o old
 
-  unfound_next : (hand : Option Hand) (row : ChainRow) → (hand ≡ None → fetched_by row ≡ Some n → ⊥)
+  pub unfound_next : (hand : Option Hand) (row : ChainRow) → (hand ≡ None → fetched_by row ≡ Some n → ⊥)
       → ((o : World) → HasFound n o fs → ⊥) → (o : World) → HasFound n o (found_next hand row w fs) → ⊥
   unfound_next None row off none o was = too_unfound (fetched_by row) (off refl) none o was
   unfound_next (Some hand) row off none o was = none o was
@@ -191,6 +191,10 @@ module _ (w : World) (k : IsMixedWorld w) (other : controller_row w ≢ rows.Fra
 
 -- ---- its microframe begins
 
+pub record BeginsWalk (v : World) : Type 0 where
+  pub periodic : v.control.part ≡ Periodic
+  pub nothing : v.control.frame.hand ≡ None
+
 record HasBegun (c : Content) : Type 0 where
   periodic : c.control.part ≡ Periodic
   nothing : c.control.frame.hand ≡ None
@@ -216,6 +220,12 @@ module _ (fixed : Fixed) (w : World) (row : controller_row w ≡ rows.Begin) (k 
   has_begun : HasBegun left
   has_begun = begun_so (reaches w.memory (element_address (after_begin w.registers))) (is_allowed fixed w.bus) stepped runs
 
+  pub begins_walk : BeginsWalk (controller_next fixed w)
+  begins_walk = record {
+    periodic = ap (λ (v : World). v.control.part) next_is ∙ has_begun.periodic;
+    nothing = ap (λ (v : World). v.control.frame.hand) next_is ∙ has_begun.nothing;
+  }
+
   pub begins_ahead : (e q : ℕ) (d : IsDueAtBegin fixed (controller_next fixed w) e q)
       → IsAhead fixed (controller_next fixed w) nothing_yet e q d.due.there.endpoint.desc
       (controller_next fixed w).control.frame.index (bytes_moved d.due.transfer.ready.answers)
@@ -223,12 +233,12 @@ module _ (fixed : Fixed) (w : World) (row : controller_row w ≡ rows.Begin) (k 
       let name = d.due.there.endpoint.desc.name in
       let ready = d.due.transfer.ready in
       record {
-        periodic = ap (λ (v : World). v.control.part) next_is ∙ has_begun.periodic;
+        periodic = begins_walk.periodic;
         index = refl;
         free = d.due.free;
         unfound = λ o was. was;
         apart = λ a is. absurd (none_held a
-            (sym (ap held_address (ap (λ (v : World). v.control.frame.hand) next_is ∙ has_begun.nothing)) ∙ is));
+            (sym (ap held_address begins_walk.nothing) ∙ is));
         same = λ y here. ap (λ (v : Endpoint). v.desc) (same_Some y d.due.there.endpoint (sym here ∙ d.due.there.here));
         yet = record {
           queue = d.due.transfer.queue;

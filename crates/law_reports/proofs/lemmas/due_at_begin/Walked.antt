@@ -65,7 +65,7 @@ use Rattle.law_microframes.proofs.lemmas.visits.NoneLeftWalking.{index_stays}
 use Rattle.law_reports.specs.lines.Lined.{Lines}
 use Rattle.law_reports.specs.pipes.Declared.{Sides}
 use Rattle.law_reports.specs.pipes.Piped.{Heads, IsPiped}
-use Rattle.law_reports.proofs.lemmas.due_at_begin.Ahead.{HasYet, HasToken, itself_alike, goes_alike, yet_alike}
+use Rattle.law_reports.proofs.lemmas.due_at_begin.Ahead.{HasYet, HasToken, HasWork, itself_alike, goes_alike, yet_alike, work_alike}
 use Rattle.law_reports.proofs.lemmas.due_at_begin.Apart.{effect_leaves, effect_goes}
 use Rattle.law_reports.proofs.lemmas.due_at_begin.Asking.{BusGoes, is_quiet, is_asked, happens, walk, walks, bus_goes}
 use Rattle.law_reports.proofs.lemmas.due_at_begin.Asking.{not_its_place}
@@ -162,7 +162,7 @@ module _ (fixed : Fixed) (x : Sides) (s : Standing) (m : Lines) (h : Heads) (w :
   read_is : (r : Qh) → queue_head_at_address w.memory (32 * q) ≡ Some r → part_is.queue ≡ r
   read_is r read = same_Some part_is.queue r (sym (head_read w.memory all (32 * q) (32 * q) part_is.queue tells part_is.here) ∙ read)
 
-  read_then : (r : Qh) → queue_head_at_address w.memory (32 * q) ≡ Some r
+  pub read_then : (r : Qh) → queue_head_at_address w.memory (32 * q) ≡ Some r
       → queue_head_at_address (controller_next fixed w).memory (32 * q) ≡ Some r
   read_then r read =
       head_read new.memory (happens fixed x s m h w k heads sends row).now (32 * q) (32 * q) part_is.queue tells_then
@@ -172,7 +172,7 @@ module _ (fixed : Fixed) (x : Sides) (s : Standing) (m : Lines) (h : Heads) (w :
       → IsElement (both s.descs s.parts (32 * q)) a
   led_to l a is on = subst (LeadsOn (both s.descs s.parts (32 * q))) is on
 
-  token_then : (r : Qh) → queue_head_at_address w.memory (32 * q) ≡ Some r → (a : ℕ) (t : Qtd) → r.token.active ≡ false
+  pub token_then : (r : Qh) → queue_head_at_address w.memory (32 * q) ≡ Some r → (a : ℕ) (t : Qtd) → r.token.active ≡ false
       → r.token.halted ≡ false → qtd_link_of (next_pointer r) ≡ qtd_links.To a → qtd_at_address w.memory a ≡ Some t
       → IsActiveToken t.token → HasToken (controller_next fixed w).memory a t.token
   token_then r read a t idle unhalted leads here work =
@@ -187,6 +187,12 @@ module _ (fixed : Fixed) (x : Sides) (s : Standing) (m : Lines) (h : Heads) (w :
             (ap (λ (part : Structures). part a) leaves ∙ on.here);
         token = ap (λ (y : Qtd). y.token) one;
       }
+
+  pub walked_work : (v : Qh) (active : Bool) → HasWork w.memory (32 * q) v active
+      → HasWork (controller_next fixed w).memory (32 * q) v active
+  walked_work v active y =
+      work_alike w.memory new.memory (32 * q) v active y y.queue (read_then y.queue y.read) (itself_alike y.queue y.queue refl)
+      (token_then y.queue y.read)
 
   -- ---- its device
 

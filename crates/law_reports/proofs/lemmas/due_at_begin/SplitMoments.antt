@@ -1,0 +1,387 @@
+-- At each moment of a script's run what was due of an interrupt endpoint below a hub as the microframe began is in its stage; so it is done
+-- once the walk of the frames is over.
+use Rattle.std.proofs.Common.{◌≡◌, ◌≢◌, ℕ, zero, suc, ◌*◌, ◌≤◌, Bool, true, false, List, [], ◌∷◌, Option, Some, None, ap, refl, sym, subst, ◌∙◌}
+use Rattle.std.proofs.Common.{⊎_elim, arith}
+use Rattle.std.proofs.lemmas.Bool.{false≢true}
+use Rattle.law_microframes.proofs.Common.{in_list, repeats_less, frame_row}
+use Rattle.usb_base.specs.declared.commands.Cmd.{Cmd}
+use Rattle.script_types.specs.declared.scripts.Event.TheVariants as events
+use Rattle.script_types.specs.declared.scripts.Script.{Script}
+use Rattle.script_text.specs.Faults.{Spells}
+use Rattle.qh_qtd.specs.declared.queue_head.Qh.{Qh}
+use Rattle.bandwidth.specs.declared.placements.Placement.{Placement}
+use Rattle.bandwidth.specs.Sums.{is_active}
+use Rattle.hc_masks.specs.Masks.{has}
+use Rattle.hc_interrupt.specs.declared.turns.Turn.TheVariants as turns
+use Rattle.hc_interrupt.specs.Turns.{microframe_of, turn_of}
+use Rattle.periodic_walk.specs.declared.state.Hand.{Hand}
+use Rattle.periodic_walk.specs.declared.state.Hand.TheVariants as hands
+use Rattle.periodic_walk.specs.Walk.{held_address, over_at}
+use Rattle.hc_core.specs.declared.controller.ControllerRow.{ControllerRow}
+use Rattle.hc_core.specs.declared.controller.ControllerRow.TheVariants as rows
+use Rattle.hc_core.specs.declared.controller.MicroframePart.TheVariants.{Periodic}
+use Rattle.hc_core.specs.Controller.{Control}
+use Rattle.bus_wire.specs.Bus.{Bus, Fixed, fixed_of, is_held as may_not_be_used}
+use Rattle.bus_world.specs.Budgets.{moment}
+use Rattle.bus_world.specs.Opening.{opening_world}
+use Rattle.bus_world.specs.Orders.{Left, Events, Microframes, Answer, Command, Plugs, OrderedWorld, tick_at, ticks}
+use Rattle.bus_world.specs.World.{World, controller_parts, controller_row, controller_next, driver_next, commanded, kind_next}
+use Rattle.claims_world.specs.Carried.{carried_from, carried_in}
+use Rattle.claims_world.specs.Coming.{IsInItsFrames}
+use Rattle.claims_world.specs.DueAtBegin.{begun, IsUncancelled}
+use Rattle.claims_world.specs.InTime.{IsInTime}
+use Rattle.claims_world.specs.Owners.{LeavesControllers, is_controllers, KeepsToOwners}
+use Rattle.claims_world.specs.QueuesMade.{QueueMade, made_as, made_at, made_after, made_next, queues_made, HasMade}
+use Rattle.claims_world.specs.SoFar.{SoFar, nothing_yet, so_far_after, so_far_next, so_far}
+use Rattle.claims_world.specs.Visits.{IsPastFrames, began_at, began_by, began, frame_in, is_held_now}
+use Rattle.claims_world.specs.WithinLoad.{repeats_at, repeats_after, repeats_next, repeats}
+use Rattle.law_world.specs.steps.Streaming.{begins_by, transacts_by, wired}
+use Rattle.law_world.specs.memory.Mixed.{IsMixedWorld}
+use Rattle.law_world.proofs.lemmas.memory.Carrying.{carried_then}
+use Rattle.law_world.proofs.lemmas.memory.LetGo.{moment_then}
+use Rattle.law_world.proofs.lemmas.steps.StreamTurning.{world_has_row}
+use Rattle.law_microframes.specs.visits.Belonging.{HeadsHaveFields}
+use Rattle.law_microframes.proofs.lemmas.due.Aside.{IsAside, goes_still}
+use Rattle.law_microframes.proofs.lemmas.due.Coming.{texts_come_to_each}
+use Rattle.law_microframes.proofs.lemmas.time.PaymentTimes.{texts_are_in_time}
+use Rattle.law_microframes.proofs.lemmas.visits.NoneLeftWalking.{index_stays}
+use Rattle.law_microframes.proofs.lemmas.visits.ReasonParts.{command_control, command_bus}
+use Rattle.law_reports.specs.pipes.Declared.{Sides, sides_of}
+use Rattle.law_reports.proofs.lemmas.due_at_begin.Ahead.{HasWork}
+use Rattle.law_reports.proofs.lemmas.due_at_begin.Aside.{aside_work}
+use Rattle.law_reports.proofs.lemmas.due_at_begin.InFrames.{IsStillIn, driver_uncancelled, driver_in_frames, command_uncancelled}
+use Rattle.law_reports.proofs.lemmas.due_at_begin.InFrames.{command_in_frames}
+use Rattle.law_reports.proofs.lemmas.due_at_begin.Moments.{IsKnown, known_at, mixed_then, heads_then_at, owned_at}
+use Rattle.law_reports.proofs.lemmas.due_at_begin.SplitStages.{IsTransactionDue, IsSplitHeld, IsSplitTold, SplitStage, is_ahead}
+use Rattle.law_reports.proofs.lemmas.due_at_begin.SplitStages.{is_held, is_told, is_done, more_made, split_held, split_written, split_ahead}
+use Rattle.law_reports.proofs.lemmas.due_at_begin.SplitTurns.{take_turn}
+use Rattle.law_reports.proofs.lemmas.due_at_begin.Stages.{past_frames, begins_walk}
+
+-- ---- due of an endpoint as a microframe begins
+
+pub record IsDueOf (fixed : Fixed) (b : World) (e q : ℕ) (P : QueueMade → Type 0) : Type 0 where
+  pub placement : Placement
+  pub there : IsInItsFrames b.driver e q placement
+  pub active : is_active placement (frame_in b.control.frame.index) ≡ true
+  pub free : is_held_now fixed b ≡ false
+  pub queue : Qh
+  pub overlay : Bool
+  pub work : HasWork b.memory (32 * q) queue overlay
+  pub bit : overlay ≡ false → has placement.smask (microframe_of b.control.frame.index) ≡ true
+  pub due : IsTransactionDue b.control.frame.index (32 * q) queue P
+
+-- ---- what is carried: of what was due as the microframe of the world b began, in the world w of the same microframe
+
+pub record IsSplitWaiting (fixed : Fixed) (b w : World) (t : SoFar) (ms : List QueueMade) (e q : ℕ) (P : QueueMade → Type 0) : Type 0 where
+  pub placement : Placement
+  pub was : IsInItsFrames b.driver e q placement
+  pub active : is_active placement (frame_in b.control.frame.index) ≡ true
+  pub frames : IsInItsFrames w.driver e q placement
+  pub index : w.control.frame.index ≡ b.control.frame.index
+  pub queue : Qh
+  pub due : IsTransactionDue b.control.frame.index (32 * q) queue P
+  pub stage : SplitStage fixed w t ms q b.control.frame.index placement queue P
+
+-- .. of all that is due so
+module _ (D : World → ℕ → ℕ → Type 0) (P : (b : World) (e q : ℕ) → D b e q → QueueMade → Type 0) where
+  abbrev pub AreSplitsWaiting : Fixed → World → World → SoFar → List QueueMade → ℕ → Type 0
+  AreSplitsWaiting fixed b w t ms again =
+      again ≤ 4000000 → (e q : ℕ) (d : D (controller_next fixed b) e q) → IsUncancelled w.driver e
+      → IsSplitWaiting fixed (controller_next fixed b) w t ms e q (P (controller_next fixed b) e q d)
+
+  module _ (fixed : Fixed)
+      (comes : (b : World) → IsMixedWorld b → HeadsHaveFields b.driver b.memory → (e q : ℕ) (d : D b e q) → IsDueOf fixed b e q (P b e q d))
+      (x : Sides) (b w : World) (t : SoFar) (ms : List QueueMade) (again : ℕ) (k : IsKnown fixed x b w t)
+      (timely : IsInTime fixed again w) (all : AreSplitsWaiting fixed b w t ms again) where
+    abbrev new : World
+    new = controller_next fixed w
+
+    index_on : controller_row w ≢ rows.Begin → (controller_next fixed w).control.frame.index ≡ w.control.frame.index
+    index_on other =
+        index_stays begins_by transacts_by (controller_parts w) (wired fixed w) (controller_parts new) (wired fixed new) (controller_row w)
+        other
+        (world_has_row fixed w)
+
+    -- ---- the walk of the frames
+
+    module _ (row : controller_row w ≡ rows.Frame) where
+      abbrev moves : List QueueMade
+      moves = made_at w.control.frame.hand w.control.frame.reply (kind_next w) ms
+
+      abbrev After : ℕ → ℕ → Placement → Qh → (QueueMade → Type 0) → Type 0
+      After q f p v R = SplitStage fixed (controller_next fixed w) (so_far_after rows.Frame w t) moves q f p v R
+
+      frame_stage : again ≤ 4000000 → (e q f : ℕ) (p : Placement) (v : Qh) (R : QueueMade → Type 0) → IsInItsFrames w.driver e q p
+          → IsTransactionDue f (32 * q) v R → SplitStage fixed w t ms q f p v R → After q f p v R
+      frame_stage few e q f p v R i d (is_ahead a) =
+          let g = k.followed in
+          let tells = k.tells (λ is. let never : rows.Frame ≡ rows.Begin = sym row ∙ is in cc never) in
+          split_ahead fixed x g.standing g.lines g.heads w g.followed.piped k.heads k.sends row tells e q p i f v R t moves a
+      frame_stage few e q f p v R i d (is_held s) =
+          ⊎_elim {C = After q f p v R} (λ (u : IsSplitHeld fixed (controller_next fixed w) (32 * q) f v). is_held u)
+          (λ (u : IsSplitTold (controller_next fixed w) R). is_told u)
+          (split_held fixed w k.mixed q f v R d s again few timely)
+      frame_stage few e q f p v R i d (is_told s) = is_done (split_written fixed w k.mixed q f v R d row ms s)
+      frame_stage few e q f p v R i d (is_done u) =
+          is_done (more_made R w.control.frame.hand w.control.frame.reply (kind_next w) ms u)
+
+      frame_goes : AreSplitsWaiting fixed b (controller_next fixed w) (so_far_after rows.Frame w t) moves
+          (repeats_at w.control.frame.hand (kind_next w) again)
+      frame_goes few e q d off =
+          let less = repeats_less w.control.frame.hand (kind_next w) again in
+          let little : again ≤ 4000000 = omega (arith, few, less) in
+          let old = all little e q d off in
+          record {
+            placement = old.placement;
+            was = old.was;
+            active = old.active;
+            frames = old.frames;
+            index = index_on (λ is. let never : rows.Frame ≡ rows.Begin = sym row ∙ is in cc never) ∙ old.index;
+            queue = old.queue;
+            due = old.due;
+            stage = frame_stage little e q (controller_next fixed b).control.frame.index old.placement old.queue
+                (P (controller_next fixed b) e q d) old.frames old.due old.stage;
+          }
+
+    -- ---- once the walk of the frames is over it came to each
+
+    past_goes : controller_row w ≢ rows.Frame → controller_row w ≢ rows.Begin
+        → AreSplitsWaiting fixed b (controller_next fixed w) t ms again
+    past_goes off_frames off_begin few e q d off =
+        let old = all few e q d off in
+        record {
+          placement = old.placement;
+          was = old.was;
+          active = old.active;
+          frames = old.frames;
+          index = index_on off_begin ∙ old.index;
+          queue = old.queue;
+          due = old.due;
+          stage = over old.placement old.queue old.was old.active old.frames old.index old.stage;
+        }
+      where
+        over : (p : Placement) (v : Qh) → IsInItsFrames (controller_next fixed b).driver e q p
+            → is_active p (frame_in (controller_next fixed b).control.frame.index) ≡ true → IsInItsFrames w.driver e q p
+            → w.control.frame.index ≡ (controller_next fixed b).control.frame.index
+            → SplitStage fixed w t ms q (controller_next fixed b).control.frame.index p v (P (controller_next fixed b) e q d)
+            → SplitStage fixed (controller_next fixed w) t ms q (controller_next fixed b).control.frame.index p v
+            (P (controller_next fixed b) e q d)
+        over p v was active frames index (is_ahead a) =
+            let c = k.comes e q p (past_frames w k.mixed off_frames) was frames
+            (ap (λ (i : ℕ). is_active p (frame_in i)) index ∙ active) in
+            absurd (a.unfound c.0 c.1)
+        over p v was active frames index (is_held s) = absurd (off_frames (frame_row w (hands.Queue s.held) k.mixed s.periodic s.hand))
+        over p v was active frames index (is_told s) = absurd (off_frames (frame_row w (hands.Queue s.held) k.mixed s.periodic s.hand))
+        over p v was active frames index (is_done u) = is_done u
+
+    -- ---- a microframe begins
+
+    begin_goes : controller_row w ≡ rows.Begin → IsMixedWorld (controller_next fixed w)
+        → HeadsHaveFields (controller_next fixed w).driver (controller_next fixed w).memory → (again_then : ℕ)
+        → AreSplitsWaiting fixed w (controller_next fixed w) nothing_yet [] again_then
+    begin_goes row l heads_then again_then few e q d off =
+        let n : IsDueOf fixed (controller_next fixed w) e q (P (controller_next fixed w) e q d) =
+        comes (controller_next fixed w) l heads_then e q d in
+        let g = begins_walk fixed w row l in
+        record {
+          placement = n.placement;
+          was = n.there;
+          active = n.active;
+          frames = n.there;
+          index = refl;
+          queue = n.queue;
+          due = n.due;
+          stage = is_ahead (record {
+            periodic = g.periodic;
+            index = refl;
+            free = n.free;
+            unfound = λ o was. was;
+            apart = λ a is. absurd (none_held a (sym (ap held_address g.nothing) ∙ is));
+            overlay = n.overlay;
+            work = n.work;
+            bit = n.bit;
+          });
+        }
+      where
+        none_held : (a : ℕ) → ◌≡◌ {A = Option ℕ} None (Some a) → ⊥
+        none_held a is = cc
+
+    by_row : (r : ControllerRow) → controller_row w ≡ r → IsMixedWorld (controller_next fixed w)
+        → HeadsHaveFields (controller_next fixed w).driver (controller_next fixed w).memory
+        → AreSplitsWaiting fixed (began_at r w b) (controller_next fixed w) (so_far_after r w t) (made_after r w ms)
+        (repeats_after r (kind_next w) (controller_parts w) again)
+    by_row rows.Begin is l heads_then = begin_goes is l heads_then 0
+    by_row rows.Frame is l heads_then = frame_goes is
+    by_row rows.Idle is l heads_then = past_goes (λ row. let never : rows.Idle ≡ rows.Frame = sym is ∙ row in cc never)
+        (λ row. let never : rows.Idle ≡ rows.Begin = sym is ∙ row in cc never)
+    by_row rows.Enter is l heads_then = past_goes (λ row. let never : rows.Enter ≡ rows.Frame = sym is ∙ row in cc never)
+        (λ row. let never : rows.Enter ≡ rows.Begin = sym is ∙ row in cc never)
+    by_row rows.Go is l heads_then = past_goes (λ row. let never : rows.Go ≡ rows.Frame = sym is ∙ row in cc never)
+        (λ row. let never : rows.Go ≡ rows.Begin = sym is ∙ row in cc never)
+    by_row rows.End is l heads_then = past_goes (λ row. let never : rows.End ≡ rows.Frame = sym is ∙ row in cc never)
+        (λ row. let never : rows.End ≡ rows.Begin = sym is ∙ row in cc never)
+
+    by_controller : IsMixedWorld (controller_next fixed w)
+        → HeadsHaveFields (controller_next fixed w).driver (controller_next fixed w).memory
+        → AreSplitsWaiting fixed (began_by fixed w b) (controller_next fixed w) (so_far_next fixed w t) (made_next fixed w ms)
+        (repeats_next fixed w again)
+    by_controller l heads_then = by_row (controller_row w) refl l heads_then
+
+    -- ---- the driver
+
+    module _ (later : World) (l : IsMixedWorld later) (heads_then : HeadsHaveFields later.driver later.memory) (aside : IsAside w later)
+        (back : (e : ℕ) → IsUncancelled later.driver e → IsUncancelled w.driver e)
+        (still : (e q : ℕ) (p : Placement) (i : IsInItsFrames w.driver e q p) → IsUncancelled later.driver e
+        → IsStillIn later e q p i.endpoint.desc) where
+      aside_stage : (e q f : ℕ) (p : Placement) (v : Qh) (R : QueueMade → Type 0) (i : IsInItsFrames w.driver e q p)
+          (j : IsInItsFrames later.driver e q p) → j.endpoint.desc ≡ i.endpoint.desc → is_active p (frame_in f) ≡ true
+          → SplitStage fixed w t ms q f p v R → SplitStage fixed later t ms q f p v R
+      aside_stage e q f p v R i j same active (is_ahead a) = is_ahead (record {
+        periodic = ap (λ (c : Control). c.part) aside.control ∙ a.periodic;
+        index = ap (λ (c : Control). c.frame.index) aside.control ∙ a.index;
+        free = ap (λ (z : Bus). may_not_be_used fixed.holds z.microframe) aside.bus ∙ a.free;
+        unfound = a.unfound;
+        apart = λ n is. a.apart n (ap (λ (c : Control). held_address c.frame.hand) (sym aside.control) ∙ is);
+        overlay = a.overlay;
+        work = aside_work fixed w later k.mixed l aside k.heads heads_then e q p i j same (frame_in f) (in_list f) active v a.overlay
+            a.work;
+        bit = a.bit;
+      })
+      aside_stage e q f p v R i j same active (is_held s) = is_held (record {
+        periodic = ap (λ (c : Control). c.part) aside.control ∙ s.periodic;
+        index = ap (λ (c : Control). c.frame.index) aside.control ∙ s.index;
+        held = s.held;
+        hand = ap (λ (c : Control). c.frame.hand) aside.control ∙ s.hand;
+        at = s.at;
+        fresh = s.fresh;
+        free = ap (λ (z : Bus). may_not_be_used fixed.holds z.microframe) aside.bus ∙ s.free;
+        works = s.works;
+        goes = goes_still fixed w later k.mixed aside s.held s.periodic s.hand s.fresh
+            (λ a idle unhalted leads. ap (λ (i : ℕ). turn_of i s.held.copy.queue_head) s.index
+            ∙ take_turn f s.held.copy.queue_head idle unhalted (s.bit idle) ∙ ap turns.Take leads) s.works s.goes;
+        due = s.due;
+        bit = s.bit;
+      })
+      aside_stage e q f p v R i j same active (is_told s) = is_told (record {
+        periodic = ap (λ (c : Control). c.part) aside.control ∙ s.periodic;
+        held = s.held;
+        hand = ap (λ (c : Control). c.frame.hand) aside.control ∙ s.hand;
+        outcome = s.outcome;
+        settled = s.settled;
+        made = s.made;
+        so = s.so;
+        is = λ ns.
+            ap (λ (c : Control). made_as s.held.copy.settled s.held.copy.at s.held.copy.queue_head c.frame.reply ns) aside.control
+            ∙ s.is ns;
+      })
+      aside_stage e q f p v R i j same active (is_done u) = is_done u
+
+      aside_goes : AreSplitsWaiting fixed b later t ms again
+      aside_goes few e q d off =
+          let old = all few e q d (back e off) in
+          let s = still e q old.placement old.frames off in
+          record {
+            placement = old.placement;
+            was = old.was;
+            active = old.active;
+            frames = s.frames;
+            index = ap (λ (c : Control). c.frame.index) aside.control ∙ old.index;
+            queue = old.queue;
+            due = old.due;
+            stage = aside_stage e q (controller_next fixed b).control.frame.index old.placement old.queue
+                (P (controller_next fixed b) e q d) old.frames s.frames s.same old.active old.stage;
+          }
+
+    by_driver : IsMixedWorld (driver_next w) → HeadsHaveFields (driver_next w).driver (driver_next w).memory
+        → LeavesControllers (controller_parts w) (driver_next w).memory → AreSplitsWaiting fixed b (driver_next w) t ms again
+    by_driver l heads_then leaves =
+        aside_goes (driver_next w) l heads_then (record { control = refl; bus = refl; leaves = leaves })
+        (λ e off. driver_uncancelled w e off)
+        (λ e q p i off. driver_in_frames w k.mixed e q p l i off)
+
+    by_command : (n : ℕ) (cmd : Cmd) → IsMixedWorld (commanded w n cmd)
+        → HeadsHaveFields (commanded w n cmd).driver (commanded w n cmd).memory
+        → LeavesControllers (controller_parts w) (commanded w n cmd).memory → AreSplitsWaiting fixed b (commanded w n cmd) t ms again
+    by_command n cmd l heads_then leaves =
+        aside_goes (commanded w n cmd) l heads_then
+        (record { control = command_control w n cmd; bus = command_bus w n cmd; leaves = leaves })
+        (λ e off. command_uncancelled w n cmd e off)
+        (λ e q p i off. command_in_frames w k.mixed n cmd e q p l i off)
+
+    -- ---- one more
+
+    pub splits_wait_then : (orders : List Left) → IsMixedWorld (tick_at fixed w orders).world
+        → HeadsHaveFields (tick_at fixed w orders).world.driver (tick_at fixed w orders).world.memory
+        → KeepsToOwners (is_controllers orders) (controller_parts w) (tick_at fixed w orders).world.memory
+        → AreSplitsWaiting fixed (carried_in began_by fixed w orders b) (tick_at fixed w orders).world
+        (carried_in so_far_next fixed w orders t) (carried_in made_next fixed w orders ms) (carried_in repeats_next fixed w orders again)
+    splits_wait_then [] l heads_then owns = all
+    splits_wait_then (Events event zero ∷ rest) l heads_then owns = all
+    splits_wait_then (Events events.C (suc n) ∷ rest) l heads_then owns = by_controller l heads_then
+    splits_wait_then (Events events.D (suc n) ∷ rest) l heads_then owns = by_driver l heads_then owns
+    splits_wait_then (Microframes zero ∷ rest) l heads_then owns = all
+    splits_wait_then (Microframes (suc n) ∷ rest) l heads_then owns = by_controller l heads_then
+    splits_wait_then (Answer ended n ∷ rest) l heads_then owns = by_driver l heads_then owns
+    splits_wait_then (Command n cmd ∷ rest) l heads_then owns = by_command n cmd l heads_then owns
+    splits_wait_then (Plugs there port ∷ rest) l heads_then owns = all
+
+-- ---- a run
+
+module _ (text : List ℕ) (s : Script) (spelled : Spells text s) (D : World → ℕ → ℕ → Type 0)
+    (P : (b : World) (e q : ℕ) → D b e q → QueueMade → Type 0)
+    (comes : (b : World) → IsMixedWorld b → HeadsHaveFields b.driver b.memory → (e q : ℕ) (d : D b e q)
+    → IsDueOf (fixed_of s) b e q (P b e q d))
+    (none : (e q : ℕ) → D (controller_next (fixed_of s) (opening_world s)) e q → ⊥) where
+  abbrev AreAt : World → World → SoFar → List QueueMade → ℕ → Type 0
+  AreAt b w t ms again = AreSplitsWaiting D P (fixed_of s) b w t ms again
+
+  timely_at : (k : ℕ) → IsInTime (fixed_of s) (repeats s k) (moment s k).world
+  timely_at k = (texts_are_in_time text s spelled).each k
+
+  abbrev then_world : ℕ → World
+  then_world k = (tick_at (fixed_of s) (moment s k).world (moment s k).orders).world
+
+  waits_at : (k : ℕ) → AreSplitsWaiting D P (fixed_of s) (began s k) (moment s k).world (so_far s k) (queues_made s k) (repeats s k)
+  unfolding ticks carried_from
+  waits_at zero = λ few e q d off. absurd (none e q d)
+  waits_at (suc k) =
+      subst (λ (o : OrderedWorld). AreAt (began s (suc k)) o.world (so_far s (suc k)) (queues_made s (suc k)) (repeats s (suc k)))
+      (sym (moment_then s k))
+      (subst (λ (t : SoFar). AreAt (began s (suc k)) (then_world k) t (queues_made s (suc k)) (repeats s (suc k)))
+      (sym (carried_then so_far_next s nothing_yet k))
+      (subst (λ (ms : List QueueMade). AreAt (began s (suc k)) (then_world k)
+      (carried_in so_far_next (fixed_of s) (moment s k).world (moment s k).orders (so_far s k)) ms (repeats s (suc k)))
+      (sym (carried_then made_next s [] k))
+      (subst (λ (again : ℕ). AreAt (began s (suc k)) (then_world k)
+      (carried_in so_far_next (fixed_of s) (moment s k).world (moment s k).orders (so_far s k))
+      (carried_in made_next (fixed_of s) (moment s k).world (moment s k).orders (queues_made s k)) again)
+      (sym (carried_then repeats_next s 0 k))
+      (subst (λ (b : World). AreAt b (then_world k)
+      (carried_in so_far_next (fixed_of s) (moment s k).world (moment s k).orders (so_far s k))
+      (carried_in made_next (fixed_of s) (moment s k).world (moment s k).orders (queues_made s k))
+      (carried_in repeats_next (fixed_of s) (moment s k).world (moment s k).orders (repeats s k)))
+      (sym (carried_then began_by s (opening_world s) k))
+      (splits_wait_then D P (fixed_of s) comes (sides_of s) (began s k) (moment s k).world (so_far s k) (queues_made s k) (repeats s k)
+      (known_at text s spelled k) (timely_at k) (waits_at k) (moment s k).orders (mixed_then text s spelled k)
+      (heads_then_at text s spelled k) (owned_at text s spelled k))))))
+
+  -- where the walk is over nothing is in hand
+  in_hand_over : (w : World) (hand : Hand) → w.control.part ≡ Periodic → w.control.frame.hand ≡ Some hand → IsPastFrames w → ⊥
+  in_hand_over w hand part is past = false≢true (sym (ap (λ (o : Option Hand). over_at o w.control.frame.cursor) is) ∙ past part)
+
+  pub splits_are_made : (k e q : ℕ) → IsPastFrames (moment s k).world → repeats s k ≤ 4000000 → (d : D (begun s k) e q)
+      → IsUncancelled (moment s k).world.driver e → HasMade (P (begun s k) e q d) (queues_made s k)
+  splits_are_made k e q past few d off = let i = waits_at k few e q d off in by i.placement i.queue i.was i.active i.frames i.index i.stage
+    where
+      by : (p : Placement) (v : Qh) → IsInItsFrames (begun s k).driver e q p
+          → is_active p (frame_in (begun s k).control.frame.index) ≡ true → IsInItsFrames (moment s k).world.driver e q p
+          → (moment s k).world.control.frame.index ≡ (begun s k).control.frame.index
+          → SplitStage (fixed_of s) (moment s k).world (so_far s k) (queues_made s k) q (begun s k).control.frame.index p v
+          (P (begun s k) e q d) → HasMade (P (begun s k) e q d) (queues_made s k)
+      by p v was active frames index (is_ahead a) =
+          let c = texts_come_to_each text s spelled k e q p past was frames
+          (ap (λ (j : ℕ). is_active p (frame_in j)) index ∙ active) in
+          absurd (a.unfound c.0 c.1)
+      by p v was active frames index (is_held h) = absurd (in_hand_over (moment s k).world (hands.Queue h.held) h.periodic h.hand past)
+      by p v was active frames index (is_told h) = absurd (in_hand_over (moment s k).world (hands.Queue h.held) h.periodic h.hand past)
+      by p v was active frames index (is_done u) = u

@@ -1,0 +1,10 @@
+-- The law of the split transactions of interrupt endpoints that are due as their microframe begins.
+--     TextsMakeSplits     of each script that a text spells: each start-split and each complete-split that was due as the microframe began
+--                         is made in it
+use Rattle.std.specs.Prelude.{ℕ, List}
+use Rattle.script_types.specs.declared.scripts.Script.{Script}
+use Rattle.script_text.specs.Faults.{Spells}
+use Rattle.claims_world.specs.SplitsAtBegin.{KeepsSplits}
+
+abbrev pub TextsMakeSplits : Type 0
+TextsMakeSplits = (text : List ℕ) (s : Script) → Spells text s → KeepsSplits s
