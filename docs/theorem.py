@@ -58,6 +58,16 @@ SAYS = {
     "slots_at_begin": "Once the walk of the frames is over in such a microframe: each slot of an iTD that was active as the microframe began, "
                       "where the links of its frame led to the iTD then, is written back in it, unless a cancel of its endpoint was accepted since; "
                       "and so is that of a cancelled endpoint's iTD to which they lead at each moment of the microframe nevertheless.",
+    "splits_at_begin": "Once the walk of the frames is over in such a microframe: of an interrupt endpoint below a hub that was in the frame list "
+                       "as the microframe began, a start-split that was due then is made in it and written back, its queue head waiting for "
+                       "its complete-splits: in a microframe of its S-mask, where its queue head came to work on something and no split "
+                       "transaction of it was under way; and a complete-split, in each microframe of its C-mask where it waited and none was "
+                       "missed, after which it waits further where the translator answers NYET and a later one comes; unless a cancel of it "
+                       "was accepted since. What the translator answers is in clause `translators`, not here.",
+    "sitds": "Once the walk of the frames is over in a microframe that isn't held, where no more than 4 microseconds went for complete-splits made "
+             "again: the siTDs to which it came with a transaction to be made in this microframe are those that were written back after it, one for "
+             "one: of an OUT a part, with which there is one fewer to send; of an IN its start-split, or a complete-split; parts and complete-splits "
+             "mark the microframe as done.",
     "goes_on": "At each moment: a bulk or interrupt endpoint that goes on, whose queue head isn't halted, and which has a transfer that is stored and of which a qTD is still active, has a queue head whose overlay is active or goes on to an "
             "active qTD; and so has its copy in the hand of either walk before its transaction. So no such queue head is passed for want of work.",
     "streams": "Whatever a script opens and cancels: at each moment, and after the run, the bytes told of each bulk and interrupt IN endpoint at high speed that was opened begin its stream, each once and in order; those told of each such OUT "

@@ -13,10 +13,14 @@ use Rattle.claims_translators.specs.Translators.{KeepsTranslators}
 use Rattle.law_microframes.proofs.lemmas.translators.TurnsTexts.{texts_keep_translators}
 use Rattle.claims_world.specs.Slots.{SlotsAreDone}
 use Rattle.claims_world.specs.SlotsAtBegin.{SlotsAtBeginAreDone}
+use Rattle.claims_world.specs.Sitds.{SitdsAreServed}
+use Rattle.claims_world.specs.SplitsAtBegin.{KeepsSplits}
 use Rattle.law_reports.proofs.lemmas.due_at_begin.SlotMoments.{texts_do_slots_at_begin}
+use Rattle.law_reports.proofs.lemmas.due_at_begin.SplitDue.{texts_make_splits}
 use Rattle.claims_world.specs.Unfinished.{KeepsToWork}
 use Rattle.law_microframes.proofs.lemmas.due.Together.{texts_keep_due}
 use Rattle.law_microframes.proofs.lemmas.due.lemmas.slots.Moments.{texts_serve_slots}
+use Rattle.law_microframes.proofs.lemmas.due.lemmas.sitds.Moments.{texts_serve_sitds}
 use Rattle.law_reports.proofs.lemmas.queues.Copies.{texts_keep_to_work}
 use Rattle.law_microframes.proofs.lemmas.time.PaymentTimes.{texts_pay_within_load, texts_are_in_time}
 use Rattle.claims_world.specs.Microframes.{MicroframesEnd}
@@ -56,3 +60,9 @@ source_does_what_is_due_at_begin = of_each DueAtBeginIsDone texts_do_what_is_due
 
 pub source_does_slots_at_begin : (words : List (List ℕ)) (left : Option (List ℕ)) → OfEachScript SlotsAtBeginAreDone words left
 source_does_slots_at_begin = of_each SlotsAtBeginAreDone texts_do_slots_at_begin
+
+pub source_makes_splits : (words : List (List ℕ)) (left : Option (List ℕ)) → OfEachScript KeepsSplits words left
+source_makes_splits = of_each KeepsSplits texts_make_splits
+
+pub source_serves_sitds : (words : List (List ℕ)) (left : Option (List ℕ)) → OfEachScript SitdsAreServed words left
+source_serves_sitds = of_each SitdsAreServed texts_serve_sitds

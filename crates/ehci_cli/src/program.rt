@@ -22,7 +22,9 @@ ghost use Rattle.claims_world.specs.DueAtBegin.{DueAtBeginIsDone};
 ghost use Rattle.claims_world.specs.Losses.{RepeatAfterLosses};
 ghost use Rattle.claims_translators.specs.Translators.{KeepsTranslators};
 ghost use Rattle.claims_world.specs.Slots.{SlotsAreDone};
+ghost use Rattle.claims_world.specs.Sitds.{SitdsAreServed};
 ghost use Rattle.claims_world.specs.SlotsAtBegin.{SlotsAtBeginAreDone};
+ghost use Rattle.claims_world.specs.SplitsAtBegin.{KeepsSplits};
 ghost use Rattle.claims_world.specs.Unfinished.{KeepsToWork};
 ghost use Rattle.claims_world.specs.Microframes.{MicroframesEnd};
 ghost use Rattle.claims_world.specs.Requests.{KeepsRequests};
@@ -187,6 +189,8 @@ pub fn ehci<S: Source, K: Sink>(
     ensures due_at_begin { OfEachScript DueAtBeginIsDone (map string_bytes words.now) (S.left source.old) }
     ensures slots { OfEachScript SlotsAreDone (map string_bytes words.now) (S.left source.old) }
     ensures slots_at_begin { OfEachScript SlotsAtBeginAreDone (map string_bytes words.now) (S.left source.old) }
+    ensures splits_at_begin { OfEachScript KeepsSplits (map string_bytes words.now) (S.left source.old) }
+    ensures sitds { OfEachScript SitdsAreServed (map string_bytes words.now) (S.left source.old) }
     ensures goes_on { OfEachScript KeepsToWork (map string_bytes words.now) (S.left source.old) }
     ensures streams { OfEachScript KeepsAllHighStreams (map string_bytes words.now) (S.left source.old) }
     ensures ends { OfEachScript EndsOnce (map string_bytes words.now) (S.left source.old) }
