@@ -24,7 +24,6 @@ use Rattle.hc_masks.specs.Masks.{has}
 use Rattle.hc_interrupt.specs.declared.turns.Turn.TheVariants as turns
 use Rattle.hc_interrupt.specs.Turns.{microframe_of, turn_of, planned, is_last_of}
 use Rattle.async_walk.specs.declared.state.WalkStep.TheVariants as walks
-use Rattle.periodic_walk.specs.declared.chain.ChainRow.{ChainRow}
 use Rattle.periodic_walk.specs.declared.state.Hand.{Hand}
 use Rattle.periodic_walk.specs.declared.state.Hand.TheVariants as hands
 use Rattle.periodic_walk.specs.declared.state.HeldQueue.{HeldQueue}
@@ -36,7 +35,7 @@ use Rattle.hc_core.specs.declared.controller.ControllerRow.TheVariants as rows
 use Rattle.hc_core.specs.declared.controller.HcStep.{HcStep}
 use Rattle.hc_core.specs.declared.controller.HcStep.TheVariants as steps
 use Rattle.hc_core.specs.declared.controller.MicroframePart.TheVariants.{Periodic}
-use Rattle.hc_core.specs.Controller.{Control, part_after, frame_place}
+use Rattle.hc_core.specs.Controller.{part_after, frame_place}
 use Rattle.bus_wire.specs.Bus.{Bus, Fixed, is_held as may_not_be_used, reply_of, transact_after}
 use Rattle.bus_world.specs.World.{World, FrameWalked, frame_by, framed, controller_parts, with_turned, controller_row, controller_next, kind_next}
 use Rattle.claims_world.specs.Coming.{IsInItsFrames}

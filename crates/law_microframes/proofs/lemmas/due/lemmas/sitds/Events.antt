@@ -39,12 +39,12 @@ use Rattle.periodic_walk.specs.declared.state.Hand.{Hand}
 use Rattle.periodic_walk.specs.declared.state.Hand.TheVariants as hands
 use Rattle.periodic_walk.specs.declared.state.HeldQueue.{HeldQueue}
 use Rattle.periodic_walk.specs.Chain.{chain_row, chain_read, chain_after, chain_step}
-use Rattle.periodic_walk.specs.Itd.{itd_row, itd_left_by, itd_effect, wrote_at as itd_wrote_at}
+use Rattle.periodic_walk.specs.Itd.{itd_row, itd_effect, wrote_at as itd_wrote_at}
 use Rattle.periodic_walk.specs.Place.{FramePlace, reading, Effect, sent}
 use Rattle.periodic_walk.specs.Queue.{queue_row, queue_read, queue_effect, missed, miss_outcome}
 use Rattle.periodic_walk.specs.Queue.{writing as queue_writing, wrote_at as queue_wrote_at}
 use Rattle.periodic_walk.specs.Rows.{step_at, effect_at}
-use Rattle.periodic_walk.specs.Sitd.{sitd_row, settled_row, turn_row, timed_row, sitd_step, sitd_effect, sitd_left_by, writing, wrote_at}
+use Rattle.periodic_walk.specs.Sitd.{settled_row, turn_row, sitd_step, sitd_effect, sitd_left_by, writing, wrote_at}
 use Rattle.periodic_walk.specs.Walk.{Walk}
 use Rattle.hc_core.specs.declared.controller.MicroframePart.{MicroframePart}
 use Rattle.hc_core.specs.declared.controller.MicroframePart.TheVariants.{Periodic, Asynchronous, Over}

@@ -7,7 +7,7 @@ use Rattle.hc_interrupt.specs.Turns.{microframe_of}
 use Rattle.async_walk.specs.declared.state.WalkStep.{WalkStep}
 use Rattle.async_walk.specs.declared.state.WalkStep.TheVariants as walks
 use Rattle.periodic_walk.specs.declared.state.Hand.{Hand}
-use Rattle.periodic_walk.specs.Place.{FramePlace, Effect}
+use Rattle.periodic_walk.specs.Place.{FramePlace}
 use Rattle.periodic_walk.specs.Rows.{effect_of}
 use Rattle.hc_core.specs.declared.controller.ControllerRow.{ControllerRow}
 use Rattle.hc_core.specs.declared.controller.ControllerRow.TheVariants as rows
@@ -15,7 +15,7 @@ use Rattle.hc_core.specs.declared.controller.HcStep.{HcStep}
 use Rattle.hc_core.specs.declared.controller.MicroframePart.{MicroframePart}
 use Rattle.hc_core.specs.declared.controller.MicroframePart.TheVariants.{Periodic, Asynchronous, Over}
 use Rattle.hc_core.specs.Controller.{Content, part_after, hc_step, kind_of, frame_place, frame_step, begun_at}
-use Rattle.bus_wire.specs.Bus.{Bus, Fixed, is_held}
+use Rattle.bus_wire.specs.Bus.{Fixed, is_held}
 use Rattle.bus_world.specs.World.{World, frame_by, controller_parts, with_turned, turned_by}
 use Rattle.bus_world.specs.World.{controller_row, controller_next, kind_next}
 use Rattle.claims_world.specs.Sitds.{Sitds, sitds_after, sitds_next, made_in, AreServed as AllServed}
