@@ -27,6 +27,9 @@ pub mod AskingLaws
 pub mod Publishing
 pub mod Commanding
 pub mod Reading
+pub mod HighAsking
+pub mod HighLaws
+pub mod HighGiven
 pub mod Ended
 pub mod Narrowing
 pub mod Rows

@@ -3,6 +3,8 @@
 //!
 //! - `driver_requests`: The control requests of a driver's endpoints are those of the ring's queue heads (EHCI 1.0, 3.5, 3.6 and 4.10; USB 2.0, 8.5.3): each is
 //!   a transfer, and is found by the place of its SETUP.
+//! - `high`: Worlds with endpoints of every kind: the requests of control endpoints at high speed (EHCI 1.0, 4.8 and 4.10; USB 2.0, 5.5
+//!   and 8.5.3). Each event of the driver and each command leaves them as they must stand, whatever else is open.
 //! - `queue_laws`, `queue_worked`: The queues of the control endpoints of a ring (EHCI 1.0, 3.5, 4.8 and 4.10; USB 2.0, 8.5.3): each asks the requests that were
 //!   published, one after the other, or is at rest, also halted until it is mended. So it is after each event of the controller, after each store, lend and
 //!   return of a driver beside the requests, after a request was published, is done or was halted, and where an endpoint comes or goes.
@@ -26,6 +28,7 @@ pub mod asking_laws;
 pub mod commands;
 pub mod driver_requests;
 pub mod harvests;
+pub mod high;
 pub mod leaves;
 pub mod no_misses;
 pub mod publishes;

@@ -26,7 +26,7 @@ use Rattle.law_reports.proofs.lemmas.lines.ToldStays.{still_telling, still_tells
 use Rattle.law_reports.proofs.lemmas.lines.ToldStores.{store_tells}
 
 -- the driver tells nothing while a command is unfinished
-same_report : (w : World) (q : ℕ) → (queued w.driver).command ≡ Some (unfinished.Open q)
+pub same_report : (w : World) (q : ℕ) → (queued w.driver).command ≡ Some (unfinished.Open q)
     → TellsAlike (queued w.driver) (queued (driver_next w).driver)
 same_report w q opening =
     let p = driver_parts w in

@@ -249,7 +249,7 @@ module _ (s : Standing) (m : Lines) (w new : World) (k : IsMixedAt s w) (g : IsT
   publish_not_iso e t count iso = none_some (unfinished.Publish b words) (sym (ap (queued_command w.driver.endpoints) iso)
       ∙ is.command)
 
-  storing : IsStoring (queued w.driver) s.near s.streams s.ends s.parts s.order s.out b words
+  pub storing : IsStoring (queued w.driver) s.near s.streams s.ends s.parts s.order s.out b words
   storing = record {
     command = is.command;
     made = is.made;

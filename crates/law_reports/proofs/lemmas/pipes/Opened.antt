@@ -105,7 +105,7 @@ module _ (fixed : Fixed) (x : Sides) (s : Standing) (m : Lines) (h : Heads) (w :
   unmet : IsMet (queued w.driver) at.number (queued_endpoint y) → ⊥
   unmet met = met.there.linked (opening.command ∙ ap (λ (q : ℕ). Some (unfinished.Open q)) (sym (queue_same y)))
 
-  off : s.near n ≡ false
+  pub off : s.near n ≡ false
   off = ap (λ (q : ℕ). s.near (32 * q)) queue_is
       ∙ unmet_off w.driver s.near owners near_are at.number y its.here (sym (ap (λ (z : Endpoint). z.gone) its.is) ∙ alive) unmet
 
@@ -114,7 +114,7 @@ module _ (fixed : Fixed) (x : Sides) (s : Standing) (m : Lines) (h : Heads) (w :
 
   -- ---- its queue head
 
-  head_there : IsNewHead s (32 * at.endpoint.queue) (asked_as y.desc)
+  pub head_there : IsNewHead s (32 * at.endpoint.queue) (asked_as y.desc)
   head_there = subst (λ (q : ℕ). IsNewHead s (32 * q) (asked_as y.desc)) (sym queue_is)
       (k.new_heads at.number y its.here opening (made_once s w k.mixed at))
 
@@ -181,7 +181,7 @@ module _ (fixed : Fixed) (x : Sides) (s : Standing) (m : Lines) (h : Heads) (w :
   end_here : with_end h.ends (32 * at.endpoint.queue) (asked_as y.desc) (32 * at.endpoint.queue) ≡ asked_as y.desc
   end_here = ap (λ (b : Bool). if b then its_end else h.ends n) (eq-eqb n n refl)
 
-  end_beside : (i : ℕ) → i ≢ 32 * at.endpoint.queue → with_end h.ends (32 * at.endpoint.queue) (asked_as y.desc) i ≡ h.ends i
+  pub end_beside : (i : ℕ) → i ≢ 32 * at.endpoint.queue → with_end h.ends (32 * at.endpoint.queue) (asked_as y.desc) i ≡ h.ends i
   end_beside i differs = ap (λ (b : Bool). if b then its_end else h.ends i) (other_number i n differs)
 
   ins_off : h.ins (32 * at.endpoint.queue) ≡ false

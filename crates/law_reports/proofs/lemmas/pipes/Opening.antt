@@ -1,12 +1,12 @@
 -- A new world has its streams so: no endpoint is there, and nothing was moved.
-use Rattle.std.proofs.Common.{◌≡◌, ◌≢◌, ℕ, ◌==◌, Bool, true, false, cond, [], Some, None, refl, sym, subst, inl, inr, List}
+use Rattle.std.proofs.Common.{◌≡◌, ◌≢◌, ℕ, ◌*◌, ◌==◌, Bool, true, false, cond, [], Some, None, refl, sym, subst, inl, inr, List}
 use Rattle.std.proofs.lemmas.Bool.{eqb-true, false≢true}
 use Rattle.law_common.proofs.Lists.{nothing_at}
 use Rattle.script_types.specs.declared.scripts.Script.{Script}
 use Rattle.script_fits.specs.Fits.{IsFit}
 use Rattle.drv_table.specs.DriverContent.{DriverContent}
 use Rattle.drv_table.specs.Opening.{opening}
-use Rattle.drv_table.specs.Words.{opening_head}
+use Rattle.drv_table.specs.Words.{head_block, opening_head}
 use Rattle.bus_world.specs.Rooms.{room_of_script}
 use Rattle.bus_world.specs.Opening.{opening_world}
 use Rattle.law_scripts.specs.byte_answers.Bytes.{IsByteScript}
@@ -156,6 +156,12 @@ new_piped s fit bytes =
 pub new_world_is_piped : NewWorldIsPiped
 new_world_is_piped s fit bytes =
     record { standing = new_standing; lines = no_lines; heads = no_heads; piped = new_piped s fit bytes }
+
+-- its ring has one queue head, of no endpoint
+pub new_head : (s : Script) (fit : IsFit s) (bytes : IsByteScript s)
+    → (new_world_is_piped s fit bytes).heads.ends (32 * head_block) ≡ endpoint_of opening_head
+unfolding new_world_is_piped
+new_head s fit bytes = refl
 
 -- none left yet
 pub none_left : (s : Script) (acc : ℕ → List (List ℕ)) (way : Way) (has : ℕ → ℕ → Bool) (P : ℕ → ℕ → List ℕ → Type 0)

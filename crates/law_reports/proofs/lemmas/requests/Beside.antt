@@ -4,8 +4,10 @@ use Rattle.std.proofs.lemmas.Option.{same_Some}
 use Rattle.law_common.proofs.Numbers.{same_blocks}
 use Rattle.bus_wire.specs.Bus.{Fixed}
 use Rattle.drv_table.specs.declared.content.Endpoint.{Endpoint}
-use Rattle.drv_table.specs.Words.{head_block}
-use Rattle.law_driver_ring.specs.fed_queues.Places.{HasHead}
+use Rattle.drv_table.specs.Words.{head_block, is_control}
+use Rattle.claims_driver.specs.Leaving.{HasOwners}
+use Rattle.law_driver.specs.chained_transfers.Asynchronous.{OnlyAsynchronous}
+use Rattle.law_driver_ring.specs.fed_queues.Places.{HasHead, AreMet}
 use Rattle.law_structures.specs.lent_structures.Structures.{StructureSets}
 use Rattle.law_queues.proofs.lemmas.publish_laws.Apart.{queue_placed, queues_same}
 use Rattle.claims_report.specs.Requests.{Request}
@@ -34,23 +36,35 @@ pub record HasOwner (g : Sides) (w : World) (a : Asking) (n : ℕ) : Type 0 wher
   pub at : n ≡ 32 * endpoint.queue
   pub is : (a.numbers n).endpoint ≡ number
 
-module _ (g : Sides) (fixed : Fixed) (member : ℕ → Bool) (x : Streams) (s : Standing) (a : Asking) (v : Windows) (asks : ℕ → Request)
-    (w : World) (f : IsFooting member x s w) (z : IsAskingWorld g fixed member s a v asks w) where
-  -- two that are there at one place are one
-  pub one_queue : (e i : ℕ) (y t : Endpoint) → slice_get w.driver.endpoints e ≡ Some y → slice_get w.driver.endpoints i ≡ Some t
-      → y.gone ≡ false → t.gone ≡ false → y.queue ≡ t.queue → e ≡ i
-  one_queue e i y t here there kept held same =
-      queues_same y.queue t.queue e i same (queue_placed w.driver f.owners e y here (f.turns.asynchronous.endpoints e y here) kept)
-      (queue_placed w.driver f.owners i t there (f.turns.asynchronous.endpoints i t there) held)
+-- what tells which endpoint has a queue head
+pub record IsSeated (member : ℕ → Bool) (w : World) : Type 0 where
+  pub owners : HasOwners w.driver
+  pub only : OnlyAsynchronous w.driver
+  pub met : AreMet w.driver member
+  pub apart : (e f : ℕ) (z y : Endpoint) → slice_get w.driver.endpoints e ≡ Some z → is_control z.desc.kind ≡ true
+      → slice_get w.driver.endpoints f ≡ Some y
+      → y.desc.name.addr ≡ z.desc.name.addr → y.desc.name.num ≡ z.desc.name.num → e ≡ f
 
-  pub owner_of : (n : ℕ) → have_queues a.courses n ≡ true → HasOwner g w a n
-  owner_of n has =
+pub seated : (member : ℕ → Bool) (x : Streams) (s : Standing) (w : World) → IsFooting member x s w → IsSeated member w
+seated member x s w f = record { owners = f.owners; only = f.turns.asynchronous; met = f.queues.met; apart = f.apart }
+
+module _ (g : Sides) (fixed : Fixed) (member : ℕ → Bool) (s : Standing) (a : Asking) (v : Windows) (asks : ℕ → Request)
+    (w : World) (f : IsSeated member w) (z : IsAskingWorld g fixed member s a v asks w) where
+  -- two that are there at one place are one
+  pub one_seated : (e i : ℕ) (y t : Endpoint) → slice_get w.driver.endpoints e ≡ Some y → slice_get w.driver.endpoints i ≡ Some t
+      → y.gone ≡ false → t.gone ≡ false → y.queue ≡ t.queue → e ≡ i
+  one_seated e i y t here there kept held same =
+      queues_same y.queue t.queue e i same (queue_placed w.driver f.owners e y here (f.only.endpoints e y here) kept)
+      (queue_placed w.driver f.owners i t there (f.only.endpoints i t there) held)
+
+  pub owner_seated : (n : ℕ) → have_queues a.courses n ≡ true → HasOwner g w a n
+  owner_seated n has =
       let o : IsOfEndpoint w.driver (a.numbers n).requests.endpoint n (a.numbers n).endpoint = (z.records.each n has).numbered.own.endpoint in
       ⊎_elim {C = HasOwner g w a n}
-      (λ (head : n ≡ 32 * head_block). absurd (not_head w.driver (a.numbers n).endpoint o.own f.owners f.turns.asynchronous o.here o.held (sym o.queue ∙ head)))
+      (λ (head : n ≡ 32 * head_block). absurd (not_head w.driver (a.numbers n).endpoint o.own f.owners f.only o.here o.held (sym o.queue ∙ head)))
       (λ (h : HasHead w.driver n).
       let same : h.number ≡ (a.numbers n).endpoint =
-      one_queue h.number (a.numbers n).endpoint h.endpoint o.own h.here o.here h.met.there.kept o.held (same_blocks h.endpoint.queue o.own.queue (sym h.at ∙ o.queue)) in
+      one_seated h.number (a.numbers n).endpoint h.endpoint o.own h.here o.here h.met.there.kept o.held (same_blocks h.endpoint.queue o.own.queue (sym h.at ∙ o.queue)) in
       let one : o.own ≡ h.endpoint = same_Some o.own h.endpoint (sym o.here ∙ ap (slice_get w.driver.endpoints) (sym same) ∙ h.here) in
       record {
         number = h.number;
@@ -58,7 +72,16 @@ module _ (g : Sides) (fixed : Fixed) (member : ℕ → Bool) (x : Streams) (s : 
         control = record { is = record { here = h.here; control = ap (λ (y : Endpoint). g.asks y.desc) (sym one) ∙ z.asked n o.own has o.here }; met = h.met };
         at = h.at;
         is = sym same;
-      }) (f.queues.met.only n (z.stand.members n has))
+      }) (f.met.only n (z.stand.members n has))
+
+module _ (g : Sides) (fixed : Fixed) (member : ℕ → Bool) (x : Streams) (s : Standing) (a : Asking) (v : Windows) (asks : ℕ → Request)
+    (w : World) (f : IsFooting member x s w) (z : IsAskingWorld g fixed member s a v asks w) where
+  pub one_queue : (e i : ℕ) (y t : Endpoint) → slice_get w.driver.endpoints e ≡ Some y → slice_get w.driver.endpoints i ≡ Some t
+      → y.gone ≡ false → t.gone ≡ false → y.queue ≡ t.queue → e ≡ i
+  one_queue = one_seated g fixed member s a v asks w (seated member x s w f) z
+
+  pub owner_of : (n : ℕ) → have_queues a.courses n ≡ true → HasOwner g w a n
+  owner_of = owner_seated g fixed member s a v asks w (seated member x s w f) z
 
 -- ---- structures beside the queues
 

@@ -43,7 +43,7 @@ use Rattle.drv_table.specs.declared.content.Bell.TheVariants as bells
 use Rattle.drv_table.specs.declared.content.Turn.TheVariants as turns
 use Rattle.drv_table.specs.declared.rows.DriverRow.TheVariants as rows
 
-abbrev cleared : DriverContent → DriverContent
+abbrev pub cleared : DriverContent → DriverContent
 cleared d = record d { cleared = d.cleared ++ d.rung; rung = []; bell = bells.Quiet; turn = turns.Harvest }
 
 not_both : (a b : Bool) → (a && not b) ≡ true → b ≡ false → a ≡ true

@@ -54,7 +54,7 @@ use Rattle.law_reports.specs.requests.Courses.{have_queues}
 same_Some : {X : Type 0} (a b : X) → ◌≡◌ {A = Option X} (Some a) (Some b) → a ≡ b
 same_Some a b is = cc
 
-data EndsAs (what : What) : Type 0 where
+pub data EndsAs (what : What) : Type 0 where
   as_done : what ≡ lines.Done → EndsAs what
   as_halt : (cause : EndCause) → what ≡ lines.Halt cause → EndsAs what
   as_miss : what ≡ lines.Miss → EndsAs what
@@ -73,7 +73,8 @@ ends_as false true e m n halt what ends is = subst EndsAs (cc) ends
 ends_as false false true m n halt what ends is = as_done (cc)
 ends_as false false false m n halt what ends is = absurd cc
 
-read_as : (sort : Sort) (last : Bool) (note : QtdNote) (t : Token) (n : ℕ) (what : What) → founds.Ended n what ≡ found_in sort last note t
+pub read_as : (sort : Sort) (last : Bool) (note : QtdNote) (t : Token) (n : ℕ) (what : What)
+    → founds.Ended n what ≡ found_in sort last note t
     → EndsAs what
 read_as sort last note t n what is =
     ends_as t.active t.halted (ends_by sort last t.total) (moved_of note.told t.total) n (halt_of t) what (halt_as t.missed t.babble (nat_eq t.cerr 0)) (sym is)

@@ -22,7 +22,7 @@ use Rattle.law_ring.proofs.QueueParts.{member_part}
 
 -- ---- number 0 is that of control endpoints
 
-control_zero : (kind : EpKind) (name : EpName) → is_control kind ≡ true → IsNameOf kind name → (name.num ≡ 0) × (name.way ≡ ways.Ctl)
+pub control_zero : (kind : EpKind) (name : EpName) → is_control kind ≡ true → IsNameOf kind name → (name.num ≡ 0) × (name.way ≡ ways.Ctl)
 control_zero kinds.Control name on is = (is.number, is.way)
 control_zero _ name on is = absurd (false≢true on)
 

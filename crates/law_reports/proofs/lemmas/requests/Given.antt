@@ -10,6 +10,7 @@ use Rattle.law_world.proofs.Common.{control_kind}
 use Rattle.law_common.proofs.Lists.{all_more}
 use Rattle.usb_base.specs.declared.endpoints.EpDesc.{EpDesc}
 use Rattle.usb_base.specs.declared.endpoints.EpName.{EpName}
+use Rattle.usb_base.specs.declared.packets.Speed.TheVariants as speeds
 use Rattle.script_types.specs.declared.scripts.Line.{Line}
 use Rattle.script_types.specs.declared.scripts.Script.{Script}
 use Rattle.script_types.specs.declared.devices.EpText.{EpText}
@@ -21,7 +22,7 @@ use Rattle.script_text.specs.Faults.{Spells}
 use Rattle.drv_table.specs.Words.{is_control}
 use Rattle.claims_report.specs.Reports.{WholeReport}
 use Rattle.claims_report.specs.Requests.{requests}
-use Rattle.claims_driver.specs.Scripts.{IsAsynchronous, AsynchronousLine}
+use Rattle.claims_driver.specs.Scripts.{AsynchronousLine}
 use Rattle.law_devices.proofs.Lists.{Holds, all_find}
 use Rattle.law_devices.proofs.Drafts.{IsEpOf, HasOwn, IsNamedIn, IsDeclaredDraft}
 use Rattle.law_devices.proofs.Texts.{IsScriptOf}
@@ -71,7 +72,7 @@ spelled_known text s e = spelled_kept IsKnown IsEight form_eight empty_known sec
 
 -- ---- addresses
 
-abbrev Addressed : Script → Line → Type 0
+abbrev pub Addressed : Script → Line → Type 0
 Addressed s (line.Command (cmd.OpenEp x)) = is_of_hub s x.name.addr ≡ false → 1 ≤ x.name.addr
 Addressed s _ = Unit {0}
 
@@ -104,7 +105,7 @@ line_addressed : (w : Draft) (l : Line) → IsKnown w → IsToldLine w.hubs w.de
 line_addressed w (line.Command (cmd.OpenEp x)) h told = λ off. from_address w x h off told.from
 line_addressed w _ h told = tt
 
-spelled_addressed : (text : List ℕ) (s : Script) → Spells text s → AllByRecursion (λ l. Addressed s l.1) s.lines
+pub spelled_addressed : (text : List ℕ) (s : Script) → Spells text s → AllByRecursion (λ l. Addressed s l.1) s.lines
 spelled_addressed text s e =
     let k = spelled_known text s e in
     subst (λ (z : Script). AllByRecursion (λ l. Addressed z l.1) z.lines) k.is
@@ -124,17 +125,17 @@ requests_few text s r name e =
 
 -- ---- a line
 
-open_given : (s : Script) (x : EpDesc) → IsAsynchronous x → HasItsControl s x → HasItsName x
+pub open_given : (s : Script) (x : EpDesc) → x.speed ≡ speeds.High → HasItsControl s x → HasItsName x
     → (is_of_hub s x.name.addr ≡ false → 1 ≤ x.name.addr)
     → is_of_device s x ≡ true → IsGiven (sides_of s) x
-open_given s x only control named addressed on =
+open_given s x speed control named addressed on =
     let both = and_parts (is_control x.kind) (not (is_of_hub s x.name.addr)) on in
     let kind = control_kind x.kind both.0 in
     let device : is_of_hub s x.name.addr ≡ false = not_on (is_of_hub s x.name.addr) both.1 in
-    let size = named.high kind only.speed in
+    let size = named.high kind speed in
     record {
       stages = stages_of s x;
-      first = control kind only.speed device;
+      first = control kind speed device;
       address = refl;
       number = refl;
       max = refl;
@@ -153,7 +154,7 @@ record IsDeclaredLine (s : Script) (l : Line) : Type 0 where
   addressed : Addressed s l
 
 line_gives : (s : Script) (l : Line) → IsDeclaredLine s l → GivesLine (sides_of s) l
-line_gives s (line.Command (cmd.OpenEp x)) k = record { opened = open_given s x k.only k.control k.named k.addressed; asks = tt }
+line_gives s (line.Command (cmd.OpenEp x)) k = record { opened = open_given s x k.only.speed k.control k.named k.addressed; asks = tt }
 line_gives s (line.Command (cmd.Control name setup bytes)) k = record { opened = tt; asks = k.asks }
 line_gives s (line.Order event n) k = tt
 line_gives s (line.Micro n) k = tt

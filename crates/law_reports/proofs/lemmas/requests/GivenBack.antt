@@ -52,10 +52,9 @@ use Rattle.law_reports.specs.requests.Asking.{Sides, Asking, left_with, has_left
 use Rattle.law_reports.specs.requests.Rows.{EndpointReleaseKeepsAsking, IsHeadOfNone}
 use Rattle.law_reports.proofs.lemmas.requests.Has.{asking_of}
 use Rattle.law_reports.proofs.lemmas.requests.Leaving.{idle_quiet, WasEndpoint, IsEndpointStill, RowLeaves, LinesLeave, each_still, world_left}
-use Rattle.law_reports.proofs.lemmas.requests.Beside.{owner_of, stand_beside}
+use Rattle.law_reports.proofs.lemmas.requests.Beside.{IsSeated, seated, owner_seated, stand_beside}
 use Rattle.law_reports.proofs.lemmas.requests.Releasing.{next_is}
 use Rattle.law_reports.proofs.lemmas.requests.Missed.{release_misses_none}
-use Rattle.law_reports.specs.requests.Footing.{IsFooting}
 use Rattle.law_reports.proofs.lemmas.requests.Footing.{footing}
 use Rattle.usb_base.specs.declared.reports.What.TheVariants as lines
 use Rattle.drv_table.specs.declared.rows.DriverRow.TheVariants as rows
@@ -65,8 +64,8 @@ told_same : {X : Type 0} (f : DriverContent → X) (g d : DriverContent) (b : Bo
 told_same f g d true same = same
 told_same f g d false same = refl
 
-module _ (g : Sides) (fixed : Fixed) (member : ℕ → Bool) (x : Streams) (s : Standing) (a : Asking) (v : Windows) (asks : ℕ → Request)
-    (w : World) (k : IsFooting member x s w) (z : IsAskingWorld g fixed member s a v asks w)
+module _ (g : Sides) (fixed : Fixed) (member : ℕ → Bool) (s : Standing) (a : Asking) (v : Windows) (asks : ℕ → Request)
+    (w : World) (k : IsSeated member w) (z : IsAskingWorld g fixed member s a v asks w)
     (f : ℕ) (own : Endpoint) (own_here : slice_get w.driver.endpoints f ≡ Some own) (idle : w.driver.command ≡ None) (unmet : member (32 * own.queue) ≡ false) where
   abbrev d : DriverContent
   d = w.driver
@@ -206,7 +205,7 @@ module _ (g : Sides) (fixed : Fixed) (member : ℕ → Bool) (x : Streams) (s : 
   -- a queue of which something is told is another endpoint's
   other_queue : (j : ℕ) → have_queues a.courses j ≡ true → (a.numbers j).endpoint ≢ f
   other_queue j has same =
-      let o = owner_of g fixed member x s a v asks w k z j has in
+      let o = owner_seated g fixed member s a v asks w k z j has in
       let one : own ≡ o.endpoint = same_Some own o.endpoint (sym own_here ∙ ap (slice_get w.driver.endpoints) (sym same ∙ o.is) ∙ o.control.is.here) in
       false≢true (sym unmet ∙ ap (λ (t : Endpoint). member (32 * t.queue)) one ∙ ap member (sym o.at) ∙ z.stand.members j has)
 
@@ -238,7 +237,7 @@ module _ (g : Sides) (fixed : Fixed) (member : ℕ → Bool) (x : Streams) (s : 
       let same : before.0 ≡ r = sym (kept_by f (is_told own) before.0 (λ own_of. differs (sym its ∙ own_of))) ∙ before.2 in
       let was : slice_get w.driver.transfers u ≡ Some r = before.1 ∙ ap Some same in
       let read : IsReadTo s.hand s.parts (32 * i.queue) (note_at w.driver.notes) r ((a.numbers (32 * i.queue)).requests.requests 0) = z.read e u i r m_was going next was in
-      let stays : now (32 * i.queue) ≡ s.parts (32 * i.queue) = stays_at (32 * i.queue) (k.queues.met.each e i here m_was.met) in
+      let stays : now (32 * i.queue) ≡ s.parts (32 * i.queue) = stays_at (32 * i.queue) (k.met.each e i here m_was.met) in
       let read_now : IsReadTo s.hand now (32 * i.queue) (note_at w.driver.notes) r ((a.numbers (32 * i.queue)).requests.requests 0) = record {
         setup = read.setup;
         data_at = λ has one_left.
@@ -312,7 +311,8 @@ module _ (g : Sides) (fixed : Fixed) (takes : ℕ → ℕ → Bool) (member : �
       (after_driver_row (rows.ReleaseEndpoint f) (driver_parts w)).memory (wired fixed w)
   given =
       let l = leaver fixed takes member x s w f row k in
-      given_back_asks g fixed member x s a v asks w (footing fixed takes member x s w k head) z f its l.leaves.here its_due.idle
+      given_back_asks g fixed member s a v asks w (seated member x s w (footing fixed takes member x s w k head))
+      z f its l.leaves.here its_due.idle
       (cleared_unmet w.driver member 0 f its k.feeding.working.place.sound.owners k.feeding.turns k.feeding.queues.met l.leaves.first l.leaves.here)
 
   given_back_world : HasAskingWorld g fixed takes x.stream x.packets v asks (driver_next w)

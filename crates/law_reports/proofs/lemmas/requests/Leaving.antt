@@ -27,7 +27,7 @@ use Rattle.law_reports.specs.requests.Counts.{counted_all}
 use Rattle.law_reports.specs.requests.Telling.{IsTelling}
 use Rattle.law_queues.specs.standing_fronts.Tails.{tail_block, tail_of}
 use Rattle.law_reports.specs.requests.Asking.{Sides, IsGiven, Asking, has_left, is_publishing, is_next_of, HasCourse, IsReadTo, HasTelling, IsCounted, IsUnopened, IsUnheard, IsControlOf, IsMetControl, IsAskingWorld}
-use Rattle.law_reports.specs.requests.Missed.{NoneMissed, MissesNone, PublishesNone}
+use Rattle.law_reports.specs.requests.Missed.{NoneMissed, MissesNone, PublishesNoneBy, PublishesNone}
 use Rattle.law_reports.proofs.lemmas.requests.Missed.{none_published, open_published, unlink_published, narrow_unmissed, narrow_misses}
 use Rattle.drv_table.specs.declared.content.Command.TheVariants as unfinished
 
@@ -61,6 +61,28 @@ module _ (d : DriverContent) where
     none = λ e. ap (λ (c : Option Command). is_publishing c newest e) is;
     tail = λ e x. ap (λ (c : Option Command). 32 * tail_block c newest e x.dummy) is;
     first = unlink_published d f b link is;
+  }
+
+  -- of frames
+  pub chain_quiet : d.command ≡ Some unfinished.Chain → IsQuiet d
+  chain_quiet is = record {
+    none = λ e. ap (λ (c : Option Command). is_publishing c newest e) is;
+    tail = λ e x. ap (λ (c : Option Command). 32 * tail_block c newest e x.dummy) is;
+    first = subst (PublishesNoneBy d.made) (sym is) tt;
+  }
+
+  pub iso_quiet : (e t count : ℕ) → d.command ≡ Some (unfinished.Iso e t count) → IsQuiet d
+  iso_quiet f t count is = record {
+    none = λ e. ap (λ (c : Option Command). is_publishing c newest e) is;
+    tail = λ e x. ap (λ (c : Option Command). 32 * tail_block c newest e x.dummy) is;
+    first = subst (PublishesNoneBy d.made) (sym is) tt;
+  }
+
+  pub unchain_quiet : (e : ℕ) → d.command ≡ Some (unfinished.Unchain e) → IsQuiet d
+  unchain_quiet f is = record {
+    none = λ e. ap (λ (c : Option Command). is_publishing c newest e) is;
+    tail = λ e x. ap (λ (c : Option Command). 32 * tail_block c newest e x.dummy) is;
+    first = subst (PublishesNoneBy d.made) (sym is) tt;
   }
 
 -- ---- endpoints

@@ -1,5 +1,5 @@
 -- A new world has no endpoint and no request.
-use Rattle.std.proofs.Common.{◌≡◌, ℕ, zero, suc, ◌*◌, ◌≤◌, Bool, true, List, [], length, slice_get, Option, Some, ap, refl, subst, arith, false}
+use Rattle.std.proofs.Common.{◌≡◌, ℕ, zero, suc, ◌≤◌, Bool, true, List, [], length, slice_get, Option, Some, ap, refl, subst, arith, false}
 use Rattle.std.proofs.lemmas.Bool.{false≢true}
 use Rattle.std.proofs.lemmas.List.{length-replicate}
 use Rattle.law_queues.proofs.Common.{no_endpoint}
@@ -24,10 +24,9 @@ use Rattle.law_world.specs.streams.shared_worlds.Working.{at_opening}
 use Rattle.law_world.proofs.lemmas.streams.FeedingOpening.{new_world_feeds}
 use Rattle.law_world.proofs.lemmas.streams.FedOpening.{new_world_left}
 use Rattle.law_world.proofs.lemmas.streams.TakingOpening.{new_world_taking}
-use Rattle.drv_table.specs.Words.{head_block, opening_head}
-use Rattle.law_ring.specs.Told.{endpoint_of}
+use Rattle.law_ring.specs.Told.{Endpoint as Told, HasEndpoint}
 use Rattle.bus_world.specs.Opening.{opening_world}
-use Rattle.law_world.specs.steps.Streaming.{Streams, Standing}
+use Rattle.law_world.specs.steps.Streaming.{Standing}
 use Rattle.law_world.specs.steps.Takers.{takes_of}
 use Rattle.claims_world.specs.Requests.{no_windows, no_asks}
 use Rattle.law_reports.specs.requests.Courses.{NoQueue, nobody}
@@ -55,19 +54,18 @@ none_in_hand (Stale n q) = tt
 abbrev no_numbers : Numbers
 no_numbers = record { endpoint = 0; closed = []; requests = nobody; number = λ i. i }
 
-abbrev none_asked : Asking
+abbrev pub none_asked : Asking
 none_asked = record { courses = λ n. NoQueue; numbers = λ n. no_numbers }
 
-module _ (s : Script) (g : Sides) (first : IsFirst s g) (takes : ℕ → ℕ → Bool) (member : ℕ → Bool) (x : Streams) (standing : Standing)
-    (k : IsWhole (fixed_of s) takes member x standing (opening_world s))
-    (ring : x.endpoint (32 * head_block) ≡ endpoint_of opening_head) where
+module _ (s : Script) (g : Sides) (first : IsFirst s g) (member : ℕ → Bool) (ends : ℕ → Told) (standing : Standing)
+    (named : (n : ℕ) → member n ≡ true → HasEndpoint standing.parts n (ends n)) where
   pub new_asking : IsAskingWorld g (fixed_of s) member standing (record { courses = λ n. NoQueue; numbers = λ n. record { endpoint = 0; closed = []; requests = nobody; number = λ i. i } }) no_windows no_asks (opening_world s)
   new_asking = record {
     stand = record {
       each = λ n. tt;
       members = λ n has. absurd (false≢true has);
       apart = λ n i has other address number. absurd (false≢true has);
-      others = λ n met none. record { own = x.endpoint n; has = named_by (fixed_of s) takes member x standing (opening_world s) k ring n met; other = λ i has address number. false≢true has };
+      others = λ n met none. record { own = ends n; has = named n met; other = λ i has address number. false≢true has };
     };
     records = record {
       each = λ n has. absurd (false≢true has);
@@ -129,4 +127,5 @@ new_whole s fit bytes = record {
 pub new_world_asks : NewWorldAsks
 new_world_asks s g fit bytes first =
     asking_of g (fixed_of s) (takes_of s) is_head (streams_of s) at_opening none_asked no_windows no_asks (opening_world s) (new_whole s fit bytes)
-    (new_asking s g first (takes_of s) is_head (streams_of s) at_opening (new_whole s fit bytes) refl) refl
+    (new_asking s g first is_head (streams_of s).endpoint at_opening
+    (λ n met. named_by (fixed_of s) (takes_of s) is_head (streams_of s) at_opening (opening_world s) (new_whole s fit bytes) refl n met)) refl

@@ -200,7 +200,7 @@ module _ (g : Sides) (fixed : Fixed) (member : ℕ → Bool) (s : Standing) (a :
     unmissed = record { structures = q.unmissed.structures; in_hand = q.unmissed.in_hand; first = q.unmissed.first };
   }
 
-there : (t e : ℕ) (ts : List Transfer) → option_map (λ (y : Transfer). y.endpoint) (slice_get ts t) ≡ Some e → t < length ts
+pub there : (t e : ℕ) (ts : List Transfer) → option_map (λ (y : Transfer). y.endpoint) (slice_get ts t) ≡ Some e → t < length ts
 there t e ts is = by (cases_lt t (length ts))
   where
     by : (t < length ts) ⊎ (length ts ≤ t) → t < length ts

@@ -180,9 +180,16 @@ told_notes : (d : DriverContent) (m : Mem) (e : ℕ) (x : Endpoint) (b : Bool) �
 told_notes d m e x true = refl
 told_notes d m e x false = refl
 
+pub release_silent : (p : Parts) (e : ℕ) → StaysSilent p.driver (after_driver_row (rows.ReleaseEndpoint e) p).driver
+release_silent p e = gone (slice_get p.driver.endpoints e)
+  where
+    gone : (o : Option Endpoint) → StaysSilent p.driver (after_endpoint p e o).driver
+    gone None = same_silent p.driver p.driver refl refl
+    gone (Some x) = let_go_silent p.driver _ e (is_told x) (ap (λ (ys : List Transfer). map (let_go e (is_told x)) ys) (told_transfers p.driver p.memory e x)) (told_notes p.driver p.memory e x (is_told x))
+
 -- ---- any row
 
-by_row : (p : Parts) (row : DriverRow) → OnlyAsynchronous p.driver → IsDue p row → StaysSilent p.driver (after_driver_row row p).driver
+pub by_row : (p : Parts) (row : DriverRow) → OnlyAsynchronous p.driver → IsDue p row → StaysSilent p.driver (after_driver_row row p).driver
 by_row p rows.Lend only due =
     let f : DriverContent = record p.driver { book = (lend_taken (holding p.driver.book p.memory)).book } in
     alike_silent p.driver _ (lent p.driver p.memory) (same_notes p.driver (advance f) (advanced_keeps f p.driver.command only.command).notes)
@@ -199,11 +206,7 @@ by_row p (rows.ReleaseTransfer t) only due = given_back (slice_get p.driver.tran
     given_back : (o : Option Transfer) → slice_get p.driver.transfers t ≡ o → StaysSilent p.driver (after_transfer p t o (freed_by p.driver (holding p.driver.book p.memory) o)).driver
     given_back None there = same_silent p.driver p.driver refl refl
     given_back (Some y) there = given_silent p.driver _ t y there refl refl
-by_row p (rows.ReleaseEndpoint e) only due = gone (slice_get p.driver.endpoints e)
-  where
-    gone : (o : Option Endpoint) → StaysSilent p.driver (after_endpoint p e o).driver
-    gone None = same_silent p.driver p.driver refl refl
-    gone (Some x) = let_go_silent p.driver _ e (is_told x) (ap (λ (ys : List Transfer). map (let_go e (is_told x)) ys) (told_transfers p.driver p.memory e x)) (told_notes p.driver p.memory e x (is_told x))
+by_row p (rows.ReleaseEndpoint e) only due = release_silent p e
 by_row p (rows.Harvest e t found) only due =
     alike_silent p.driver _ (harvested p.driver p.memory e t found (slice_get p.driver.endpoints e) (slice_get p.driver.transfers t) refl refl)
     (harvest_told p.driver p.memory e t found (slice_get p.driver.endpoints e) (slice_get p.driver.transfers t))

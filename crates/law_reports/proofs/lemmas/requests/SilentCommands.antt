@@ -147,7 +147,7 @@ no_request : (way : Way) → IsDataWay way → sort_by way ≡ sorts.Request →
 no_request ways.Ctl moves is = absurd moves
 no_request _ moves is = absurd (cc)
 
-accepted_silent : (d : DriverContent) (m : Mem) (o : Offered) (cmd : Cmd) → AcceptsAsynchronous d m o cmd → Stands (holding d.book m) → HasOwners d → ((t : ℕ) (y : Transfer) → slice_get d.transfers t ≡ Some y → y.released ≡ false → 1 ≤ y.qtds) → AreSilent d → AreSilent o.driver
+pub accepted_silent : (d : DriverContent) (m : Mem) (o : Offered) (cmd : Cmd) → AcceptsAsynchronous d m o cmd → Stands (holding d.book m) → HasOwners d → ((t : ℕ) (y : Transfer) → slice_get d.transfers t ≡ Some y → y.released ≡ false → 1 ≤ y.qtds) → AreSilent d → AreSilent o.driver
 accepted_silent d m o (commands.OpenEp x) k stands owners some silent =
     stays_silent d o.driver (same_silent d o.driver (ap (λ (g : Offered). g.driver.transfers) k.opens.is) (ap (λ (g : Offered). g.driver.notes) k.opens.is)) silent
 accepted_silent d m o (commands.Get name len by) k stands owners some silent =

@@ -108,7 +108,7 @@ module _ (g : Sides) (fixed : Fixed) (member : ℕ → Bool) (s : Standing) (a :
   abbrev after_row : DriverRow → World
   after_row row = with_parts w (after_driver_row row (driver_parts w))
 
-  still_row : (row : DriverRow) → IsDue (driver_parts w) row → is_still row ≡ true
+  pub still_row : (row : DriverRow) → IsDue (driver_parts w) row → is_still row ≡ true
       → IsAskingWorld g fixed member s a v asks (with_parts w (after_driver_row row (driver_parts w)))
   still_row rows.RingBell due still =
       asking_stilled w.driver.cleared (w.driver.rung ++ w.driver.waiting) [] bells.Rung turns.Harvest w.driver.periodic.status_next w.driver.periodic.removals

@@ -60,7 +60,7 @@ module _ (g : Sides) (fixed : Fixed) (member : ℕ → Bool) (x : Streams) (s : 
     world = other_asks g member s.parts s.hand a v asks w.driver w.memory (wired fixed w) q k.owners k.stands k.turns.asynchronous k.turns.turns.places o (commands.Control name setup more) t.transfers off;
   }
 
-  by_command : (cmd : Cmd) → IsTransferCommand cmd → IsByteCommand cmd → offered w.driver w.memory cmd ≡ Ok o
+  pub by_command : (cmd : Cmd) → IsTransferCommand cmd → IsByteCommand cmd → offered w.driver w.memory cmd ≡ Ok o
       → AsksThen g fixed member s v (asks_then w.driver cmd asks) (commanded_by w line (name_in cmd) (Ok o))
   by_command (commands.Get name len by) fits bytes is = moves name (asynchronous_command_is_accepted w.driver w.memory (commands.Get name len by) o k.turns.asynchronous tt is)
   by_command (commands.Put name data_bytes by) fits bytes is = moves name (asynchronous_command_is_accepted w.driver w.memory (commands.Put name data_bytes by) o k.turns.asynchronous tt is)

@@ -48,7 +48,7 @@ behind [] y ys = refl
 behind (v ∷ vs) y ys = behind vs y ys
 
 -- a list that is as long has none behind
-as_long : {X : Type 0} (xs zs : List X) (y : X) (ys : List X) → zs ≡ xs ++ y ∷ ys → length zs ≡ length xs → ⊥
+pub as_long : {X : Type 0} (xs zs : List X) (y : X) (ys : List X) → zs ≡ xs ++ y ∷ ys → length zs ≡ length xs → ⊥
 as_long xs zs y ys is long =
     let low : length xs < length zs = slice_get_within zs (length xs) y (ap (λ vs. slice_get vs (length xs)) is ∙ behind xs y ys) in
     omega (arith, low, long)
@@ -96,22 +96,23 @@ module _ (w : World) (o : Offered) (s : Standing) (mixed : IsMixedAt s w)
       (λ (a : IsEndLeft w.driver w.memory o). end_left_more w o a) q
   accepted_none _ q = absurd q
 
-module _ (fixed : Fixed) (x : Sides) (s : Standing) (m : Lines) (h : Heads) (puts : ℕ → List ℕ) (w : World)
-    (k : IsPiped fixed x s m h w) (pays : Pays fixed x s m puts w) where
+module _ (w : World) where
   -- an event of the driver brings no endpoint and no transfer
-  ends_long : length (queued (driver_next w).driver).endpoints ≡ length (queued w.driver).endpoints
+  pub ends_long : length (queued (driver_next w).driver).endpoints ≡ length (queued w.driver).endpoints
   ends_long =
       length-map (driver_next w).driver.endpoints queued_endpoint ∙ sym (length-map (driver_next w).driver.endpoints desc_at)
       ∙ ap (λ (ds : List EpDesc). length ds) (event_stays (driver_parts w)).descs ∙ length-map w.driver.endpoints desc_at
       ∙ sym (length-map w.driver.endpoints queued_endpoint)
 
-  transfers_long : length (queued (driver_next w).driver).transfers ≡ length (queued w.driver).transfers
+  pub transfers_long : length (queued (driver_next w).driver).transfers ≡ length (queued w.driver).transfers
   transfers_long =
       length-map (driver_next w).driver.transfers (queued_transfer (driver_next w).driver.endpoints)
       ∙ sym (length-map (driver_next w).driver.transfers owner_at)
       ∙ ap (λ (os : List ℕ). length os) (event_stays (driver_parts w)).owners ∙ length-map w.driver.transfers owner_at
       ∙ sym (length-map w.driver.transfers (queued_transfer w.driver.endpoints))
 
+module _ (fixed : Fixed) (x : Sides) (s : Standing) (m : Lines) (h : Heads) (puts : ℕ → List ℕ) (w : World)
+    (k : IsPiped fixed x s m h w) (pays : Pays fixed x s m puts w) where
   by_offer : (line : ℕ) (cmd : Cmd) (r : Result Offered OfferError) → offered w.driver w.memory cmd ≡ r
       → driver_next w ≡ commanded_by w line (name_in cmd) r → IsNoMore (queued w.driver) (queued (driver_next w).driver)
   by_offer line cmd (Err why) is next =
@@ -119,8 +120,8 @@ module _ (fixed : Fixed) (x : Sides) (s : Standing) (m : Lines) (h : Heads) (put
   by_offer line cmd (Ok o) is next =
       subst (λ (v : World). IsNoMore (queued w.driver) (queued v.driver)) (sym next)
       (accepted_none w o s k.mixed
-      (ap (λ (v : World). length (queued v.driver).endpoints) (sym next) ∙ ends_long)
-      (ap (λ (v : World). length (queued v.driver).transfers) (sym next) ∙ transfers_long) cmd
+      (ap (λ (v : World). length (queued v.driver).endpoints) (sym next) ∙ ends_long w)
+      (ap (λ (v : World). length (queued v.driver).transfers) (sym next) ∙ transfers_long w) cmd
       (commands_are_of_queues w.driver w.memory cmd o k.mixed.now.framed.place.sound.owners.orderly k.mixed.turns is))
 
   -- ---- each step
