@@ -98,19 +98,7 @@ module _ (p : Parts) (b : ℕ) (words : List ℕ) (command : p.driver.command �
   by_row : (row : DriverRow) → IsOwnRow row → Published p.driver.made (after_driver_row row p).driver
   by_row rows.Lend own = moved_on _ refl
   by_row (rows.Store c at v) own = moved_on p.driver refl
-  by_row (rows.Mend m) own = absurd own
-  by_row rows.Frames own = absurd own
-  by_row rows.LendDescriptors own = absurd own
-  by_row (rows.Unlink t) own = absurd own
-  by_row (rows.ReleaseRemoved what) own = absurd own
-  by_row (rows.ReleaseTransfer t) own = absurd own
-  by_row (rows.ReleaseEndpoint e) own = absurd own
-  by_row rows.ClearAdvance own = absurd own
-  by_row rows.RingBell own = absurd own
-  by_row (rows.ReadStatus heard) own = absurd own
-  by_row (rows.ReadFrame n) own = absurd own
-  by_row (rows.Harvest e t found) own = absurd own
-  by_row rows.Rest own = absurd own
+  by_row _ own = absurd own
 
   pub publishes_on : p.driver.made ≤ 8 → Published p.driver.made (after_driver_row (driver_row p) p).driver
   publishes_on few =
