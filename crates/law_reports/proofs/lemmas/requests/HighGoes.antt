@@ -1,5 +1,5 @@
 -- An endpoint that is given back, of the ring or of frames, leaves the requests of control endpoints at high speed as they must stand.
-use Rattle.std.proofs.Common.{◌≡◌, ◌≢◌, ℕ, ◌*◌, ◌+◌, ◌&&◌, ◌||◌, not, Bool, true, false, ◌++◌, map, slice_get, Option}
+use Rattle.std.proofs.Common.{◌≡◌, ◌≢◌, ℕ, ◌*◌, ◌&&◌, ◌||◌, not, Bool, true, false, ◌++◌, map, slice_get, Option}
 use Rattle.std.proofs.Common.{Some, None, ap, refl, sym, subst, ◌∙◌, ⊎_elim, inl, inr, arith}
 use Rattle.std.specs.Prelude.{◌⊎◌, ◌==◌}
 use Rattle.std.proofs.lemmas.Bool.{false≢true, true≢false, and_parts, and_from, eq-eqb, cases_eq}

@@ -26,7 +26,7 @@ use Rattle.drv_table.specs.Parts.{Parts}
 use Rattle.drv_table.specs.Rows.{row_for, driver_row, after_driver_row}
 use Rattle.drv_table.specs.Words.{is_control}
 use Rattle.law_driver.proofs.lemmas.run_owners.Reasons.{each_event_is_due}
-use Rattle.law_driver.specs.queued_drivers.Queued.{queued_endpoint, without_queue, with_queue, queued_kind, queued_command, queued_made}
+use Rattle.law_driver.specs.queued_drivers.Queued.{without_queue, queued_kind, queued_command, queued_made}
 use Rattle.law_driver.specs.queued_drivers.Queued.{queued, IsOfWay}
 use Rattle.law_driver.specs.queued_drivers.Rows.{QueuesAlike, TellsAlike, IsOfFrames}
 use Rattle.law_driver.proofs.lemmas.queued_drivers.CommandFields.{name_same}
