@@ -31,6 +31,7 @@ pub mod Unfinished
 pub mod Slots
 pub mod Losses
 pub mod HighStreams
+pub mod BelowStreams
 pub mod Refused
 pub mod Heard
 pub mod Rests

@@ -62,25 +62,28 @@ in_opens packets k i place w going has right sender = record {
 -- ---- a new queue head
 
 pub head_opens_out : HeadOpensOut
-head_opens_out w i place parts hand n x q head is below own outs first host hub side = record {
-  queue = q;
-  head = head;
-  is = is;
-  below = below;
-  own = own;
-  outs = outs;
-  first = first;
-  rests = λ off on. host.waiting;
-  hub = hub;
-  host = record {
-    next = None;
-    side = subst (λ (b : Bool). OutSide (told_key Directions.Out (endpoint_of q)) i place w b (hand_host hand n q).waiting [] None)
-        (sym host.toggle)
-        (subst (λ (b : Bool). OutSide (told_key Directions.Out (endpoint_of q)) i place w false b [] None) (sym host.waiting)
-        (subst (λ (y : Endpoint). OutSide (told_key Directions.Out y) i place w false false [] None) is side));
-    agrees = level refl refl;
-  };
-}
+head_opens_out w i place parts hand n x q head is below own outs first host hub side = (
+  record {
+    queue = q;
+    head = head;
+    is = is;
+    below = below;
+    own = own;
+    outs = outs;
+    first = first;
+    rests = λ off on. host.waiting;
+    hub = hub;
+    host = record {
+      next = None;
+      side = subst (λ (b : Bool). OutSide (told_key Directions.Out (endpoint_of q)) i place w b (hand_host hand n q).waiting [] None)
+          (sym host.toggle)
+          (subst (λ (b : Bool). OutSide (told_key Directions.Out (endpoint_of q)) i place w false b [] None) (sym host.waiting)
+          (subst (λ (y : Endpoint). OutSide (told_key Directions.Out y) i place w false false [] None) is side));
+      agrees = level refl refl;
+    };
+  },
+  refl,
+)
 
 pub head_opens_in : HeadOpensIn
 head_opens_in packets w i place parts hand n x q head is below own ins first host hub side = record {

@@ -53,6 +53,7 @@ use Rattle.law_descriptors.proofs.lemmas.queue_events.Events.{both_keeps_structu
 use Rattle.law_descriptors.proofs.lemmas.queue_events.Carrying.{walks_carry}
 use Rattle.law_below_hubs.specs.HostOuts.{out_key, shadow, OutSide, OutHost, IsOutBelow, IsOfOther}
 use Rattle.law_below_hubs.specs.HostEvents.{hand_host, RestsToStart, StartsFirst, told_key, IsOutBehind, AsksAlone, EventKeepsOutBehind}
+use Rattle.law_below_hubs.specs.HostEvents.{KeepsSent, sends_none, makes_one}
 use Rattle.law_below_hubs.specs.Splits.{IsAtHub}
 use Rattle.law_below_hubs.proofs.HostAsks.{host_toggle, first_still, asks_other}
 use Rattle.law_below_hubs.proofs.HostBeside.{others_leave_out, begin_leaves_out}
@@ -120,19 +121,26 @@ module _ (near : ℕ → Bool) (n : ℕ) (x : Endpoint) (i place : ℕ) (known :
   key_is = sym (ap (told_key Directions.Out) k.is)
 
   finish : (ys : List ℕ) (r : Qh) → parts_then n n ≡ Some (QueueHead r) → x ≡ endpoint_of r → RestsToStart (hand_host other n r)
-      → OutHost (parts_then n) other n r i place after (hand_host other n r).toggle (hand_host other n r).waiting ys → Behind ys
-  finish ys r here is rests host = record {
-    queue = r;
-    head = here;
-    is = is;
-    below = k.below;
-    own = k.own;
-    outs = out_still (parts n) (parts_then n) alters k.outs;
-    first = first_still (parts n) (parts_then n) alters k.first;
-    rests = rests;
-    hub = hub_after;
-    host = host;
-  }
+      → (host : OutHost (parts_then n) other n r i place after (hand_host other n r).toggle (hand_host other n r).waiting ys)
+      → (b : Behind ys) × (b.host.next ≡ host.next)
+  finish ys r here is rests host = (
+    record {
+      queue = r;
+      head = here;
+      is = is;
+      below = k.below;
+      own = k.own;
+      outs = out_still (parts n) (parts_then n) alters k.outs;
+      first = first_still (parts n) (parts_then n) alters k.first;
+      rests = rests;
+      hub = hub_after;
+      host = host;
+    },
+    refl,
+  )
+
+  abbrev After : List ℕ → List ℕ → Type 0
+  After all ys = (b : Behind all) × KeepsSent (parts n) (parts_now descs parts now n) k.queue.token.active k.host.next b.host.next ys
 
   -- ---- no transaction of it
 
@@ -154,7 +162,8 @@ module _ (near : ℕ → Bool) (n : ℕ) (x : Endpoint) (i place : ℕ) (known :
       (subst (λ (part : Structures). OutAgrees part one n q side.toggle known s) (sym there) agrees))
 
   quiet : HostStays (both descs parts) now one other n → HasToggle other parts_then n side.toggle → HasEndpoint parts_then n x
-      → OutSide (told_key Directions.Out x) i place after side.toggle side.waiting known k.host.next → Behind known
+      → OutSide (told_key Directions.Out x) i place after side.toggle side.waiting known k.host.next
+      → (b : Behind known) × (b.host.next ≡ k.host.next)
   quiet still has named out_side =
       let r : Qh = has.queue in
       let is : x ≡ endpoint_of r = named.is ∙ ap endpoint_of (found_queue (parts_then n n) named.queue r named.head has.head) in
@@ -162,29 +171,32 @@ module _ (near : ℕ → Bool) (n : ℕ) (x : Endpoint) (i place : ℕ) (known :
       (subst StartsFirst (sym there) k.first) k.rests in
       let toggle : side.toggle ≡ (hand_host other n r).toggle = has.is ∙ sym (host_toggle other n r) in
       finish known r has.head is z.rests
-      (subst (λ (b : Bool). OutHost (parts_then n) other n r i place after b (hand_host other n r).waiting known) toggle
-      (subst (λ (b : Bool). OutHost (parts_then n) other n r i place after side.toggle b known) (sym z.waiting)
       (record {
         next = k.host.next;
-        side = subst (λ (key : Key). OutSide key i place after side.toggle side.waiting known k.host.next)
-            (ap (told_key Directions.Out) is) out_side;
-        agrees = carries (shadow side.toggle known k.host.next) r has.head has k.host.agrees;
-      })))
+        side = subst (λ (b : Bool). OutSide (out_key r) i place after b (hand_host other n r).waiting known k.host.next) toggle
+            (subst (λ (b : Bool). OutSide (out_key r) i place after side.toggle b known k.host.next) (sym z.waiting)
+            (subst (λ (key : Key). OutSide key i place after side.toggle side.waiting known k.host.next)
+            (ap (told_key Directions.Out) is) out_side));
+        agrees = subst (λ (b : Bool). OutAgrees (parts_then n) other n r b known (shadow b known k.host.next)) toggle
+            (carries (shadow side.toggle known k.host.next) r has.head has k.host.agrees);
+      })
 
   out_side : OutSide (told_key Directions.Out x) i place wire side.toggle side.waiting known k.host.next
   out_side = subst (λ (key : Key). OutSide key i place wire side.toggle side.waiting known k.host.next) key_is k.host.side
 
-  nothing_more : (ys : List ℕ) → ys ≡ [] → Behind known → Behind (known ++ ys)
-  nothing_more ys none b = subst Behind (sym (ap (λ (zs : List ℕ). known ++ zs) none ∙ append-nil known)) b
+  nothing_more : (ys : List ℕ) → ys ≡ [] → (b : Behind known) × (b.host.next ≡ k.host.next) → After (known ++ ys) ys
+  nothing_more ys none b =
+      subst (λ (all : List ℕ). After all ys) (sym (ap (λ (zs : List ℕ). known ++ zs) none ∙ append-nil known)) (b.0, sends_none b.1 none)
 
   told_quiet : HostStays (both descs parts) now one other n → SameTold one parts other parts_then
-      → OutSide (told_key Directions.Out x) i place after side.toggle side.waiting known k.host.next → Behind known
+      → OutSide (told_key Directions.Out x) i place after side.toggle side.waiting known k.host.next
+      → (b : Behind known) × (b.host.next ≡ k.host.next)
   told_quiet still told s =
       quiet still (told.toggle n side.toggle had) (told.endpoint n x (record { queue = q; head = k.head; is = k.is })) s
 
   module _ (still : HostStays (both descs parts) now one other n) (unmade : IsUnmade (both descs parts) now one other n) where
     beside : (m : Asks transacts_by parts one wire after other) → m.copy.at ≢ n → parts_then ≡ parts
-        → Grows one parts other m.copy (came_to m) m.sent.element → Behind known
+        → Grows one parts other m.copy (came_to m) m.sent.element → (b : Behind known) × (b.host.next ≡ k.host.next)
     beside m differs all g =
         let b = alone m.copy.at (asked m.copy m.in_hand m.here m.works) differs in
         let is : b.0 ≡ endpoint_of m.copy.queue = b.1.is
@@ -200,7 +212,7 @@ module _ (near : ℕ → Bool) (n : ℕ) (x : Endpoint) (i place : ℕ) (known :
         else_asked m.made out_side)
 
     still_by : (z : BothStreamEffect begins_by (IsIsoAsk (both descs parts)) transacts_by parts one wire after parts_then other)
-        → Behind (known ++ bytes_of_both n z)
+        → After (known ++ bytes_of_both n z) (bytes_of_both n z)
     still_by (begun index allowed begins told) =
         nothing_more [] refl
         (told_quiet still told
@@ -303,13 +315,15 @@ module _ (near : ℕ → Bool) (n : ℕ) (x : Endpoint) (i place : ℕ) (known :
     part_same : parts_then n ≡ parts n
     part_same = sym now_is ∙ ap (λ (ps : StructureSets). ps n) all ∙ there
 
-    own : Behind (known ++ bytes)
+    own : After (known ++ bytes) bytes
     own =
-        finish (known ++ bytes) q (ap (λ (part : Structures). part n) part_same ∙ k.head) k.is
+        let f = finish (known ++ bytes) q (ap (λ (part : Structures). part n) part_same ∙ k.head) k.is
         (subst RestsToStart behind (own_out_rests q m.out m.reply below is_made.sent.all))
         (subst (λ (part : Structures). OutHost part other n q i place after (hand_host other n q).toggle (hand_host other n q).waiting
         (known ++ bytes)) (sym part_same)
         (subst (λ (host : HostSide). OutHost (parts n) other n q i place after host.toggle host.waiting (known ++ bytes)) behind host_then))
+        in
+        (f.0, makes_one works part_same)
 
     -- the bytes that it moved are those that are told
     settled_so : Settles Kinds.Bulk q m.out false m.reply
@@ -367,17 +381,17 @@ module _ (near : ℕ → Bool) (n : ℕ) (x : Endpoint) (i place : ℕ) (known :
     as_told (moved (grows a same_parts g)) = grown a same_parts g
 
     own_by : (z : BothStreamEffect begins_by (IsIsoAsk (both descs parts)) transacts_by parts one wire after parts_then other)
-        → Behind (known ++ bytes_of_both n z)
-    own_by z = subst (λ (ys : List ℕ). Behind (known ++ ys)) (sym (as_told z)) own
+        → After (known ++ bytes_of_both n z) (bytes_of_both n z)
+    own_by z = subst (λ (ys : List ℕ). After (known ++ ys) ys) (sym (as_told z)) own
 
   goes_by : HostGoes (both descs parts) now one other n wire after
       → (z : BothStreamEffect begins_by (IsIsoAsk (both descs parts)) transacts_by parts one wire after parts_then other)
-      → Behind (known ++ bytes_of_both n z)
+      → After (known ++ bytes_of_both n z) (bytes_of_both n z)
   goes_by (makes_own m at here all) z = own_by m at here all z
   goes_by (stays still unmade) z = still_by still unmade z
 
   pub goes_on_so : (z : BothStreamEffect begins_by (IsIsoAsk (both descs parts)) transacts_by parts one wire after parts_then other)
-      → Behind (known ++ bytes_of_both n z)
+      → After (known ++ bytes_of_both n z) (bytes_of_both n z)
   goes_on_so z = goes_by goes z
 
 pub event_keeps_out_behind : EventKeepsOutBehind

@@ -8,8 +8,11 @@
 --     IsOutBehind, IsInBehind  the queue head at n is that of a bulk endpoint below the hub, and host, hub and device stand as they must
 --     AsksElse dir part x y    a queue head of the endpoint y asks not x, or only in the other direction
 --     AsksAlone dir near parts n x     so does each other queue head that is met
+--     KeepsSent ..             no transaction of the queue head is made, and the packet that was sent last stays; or one is, which leaves
+--                              its structures
 --     EventKeepsOutBehind, EventKeepsInBehind     each event keeps it so
-use Rattle.std.specs.Prelude.{◌≡◌, ◌≢◌, ℕ, ◌⊎◌, ◌==◌, Bool, true, false, not, List, ◌++◌, Option, Some, if◌then◌else◌}
+use Rattle.std.specs.Prelude.{◌≡◌, ◌≢◌, ℕ, ◌⊎◌, ◌==◌, Bool, true, false, not, List, [], ◌++◌, Option, Some}
+use Rattle.std.specs.Prelude.{if◌then◌else◌}
 use Rattle.usb_base.specs.declared.packets.Ask.{Ask}
 use Rattle.usb_base.specs.declared.packets.Dir.{Dir}
 use Rattle.usb_base.specs.declared.packets.Dir.TheVariants as Directions
@@ -115,6 +118,10 @@ AsksAlone dir near parts n x = (m : ℕ) → near m ≡ true → m ≢ n → (y 
 
 -- ---- the law
 
+pub data KeepsSent (part now : Structures) (works : Bool) (next later : Option (List ℕ)) (bytes : List ℕ) : Type 0 where
+  sends_none : later ≡ next → bytes ≡ [] → KeepsSent part now works next later bytes
+  makes_one : works ≡ true → now ≡ part → KeepsSent part now works next later bytes
+
 -- where the hub keeps its address and its translators
 abbrev pub EventKeepsOutBehind : Type 0
 EventKeepsOutBehind = (near : ℕ → Bool) (n : ℕ) (x : Endpoint) (i place : ℕ) (known : List ℕ) (base : Base) (member : ℕ → Bool)
@@ -128,8 +135,9 @@ EventKeepsOutBehind = (near : ℕ → Bool) (n : ℕ) (x : Endpoint) (i place : 
     → IsAtHub after.bus.hubs x.hub x.port i place
     → (z : BothStreamEffect begins_by (IsIsoAsk (both descs parts)) transacts_by parts (joined hand frame) wire after
     (parts_now descs parts now) (joined later frame_later))
-    → IsOutBehind wire i place known parts (joined hand frame) n x
-    → IsOutBehind after i place (known ++ bytes_of_both n z) (parts_now descs parts now) (joined later frame_later) n x
+    → (k : IsOutBehind wire i place known parts (joined hand frame) n x)
+    → (b : IsOutBehind after i place (known ++ bytes_of_both n z) (parts_now descs parts now) (joined later frame_later) n x)
+    × KeepsSent (parts n) (parts_now descs parts now n) k.queue.token.active k.host.next b.host.next (bytes_of_both n z)
 
 -- no request is made that takes the key from a hub
 abbrev pub SparesKeyNow : Key → ℕ → ℕ → Wired → Wired → Type 0

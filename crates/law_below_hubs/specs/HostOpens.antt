@@ -56,7 +56,8 @@ abbrev pub HeadOpensOut : Type 0
 HeadOpensOut = (w : Wired) (i place : ℕ) (parts : StructureSets) (hand : Hand) (n : ℕ) (x : Endpoint) (q : Qh)
     → parts n n ≡ Some (QueueHead q) → x ≡ endpoint_of q → (x.speed == 2) ≡ false → x.dtc ≡ false → IsOut (parts n) → StartsFirst (parts n)
     → IsFirst (hand_host hand n q) → IsAtHub w.bus.hubs x.hub x.port i place
-    → OutSide (told_key Directions.Out x) i place w false false [] None → IsOutBehind w i place [] parts hand n x
+    → OutSide (told_key Directions.Out x) i place w false false [] None
+    → (b : IsOutBehind w i place [] parts hand n x) × (b.host.next ≡ None)
 
 abbrev pub HeadOpensIn : Type 0
 HeadOpensIn = (packets : List (List ℕ)) (w : Wired) (i place : ℕ) (parts : StructureSets) (hand : Hand) (n : ℕ) (x : Endpoint) (q : Qh)

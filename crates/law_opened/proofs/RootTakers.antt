@@ -44,7 +44,7 @@ module _ (w : Draft) (h : IsDeclaredDraft w) (name : Name) (x : EpDesc) (k : IsD
   own : HasOwn w.endpoints k.device
   own = subst (Holds (HasOwn w.endpoints)) k.device_is (all_find (HasOwn w.endpoints) (λ d. d.addr == name.addr) w.devices h.own)
 
-  text : IsOwn k.text
+  pub text : IsOwn k.text
   text = subst (Holds IsOwn) k.text_is
       (all_find IsOwn (is_named name) k.device.eps own)
 
@@ -57,21 +57,21 @@ module _ (w : Draft) (h : IsDeclaredDraft w) (name : Name) (x : EpDesc) (k : IsD
   its_way : name.way ≡ way.Out
   its_way = out_is name.way (ap (λ v. same_way v name.way) (sym isout) ∙ passes.1)
 
-  first : IsFirst (λ (d : Placed). d.addr == name.addr) w.devices k.device
+  pub first : IsFirst (λ (d : Placed). d.addr == name.addr) w.devices k.device
   first = found_first (λ (d : Placed). d.addr == name.addr) w.devices k.device k.device_is
 
   -- ---- its device
 
-  abbrev opened : Device
+  abbrev pub opened : Device
   opened = opening (device_text k.device)
 
-  opened_test : (t : EpText) → is_endpoint_named y.name.num way.Out (opened_endpoint t) ≡ is_named name t
+  pub opened_test : (t : EpText) → is_endpoint_named y.name.num way.Out (opened_endpoint t) ≡ is_named name t
   opened_test t =
       ap (λ n. t.desc.name.num == n && is_way t.desc.name.way way.Out) passes.0
       ∙ ap (λ b. t.desc.name.num == name.num && b) (out_way t.desc.name.way)
       ∙ ap (λ v. t.desc.name.num == name.num && same_way t.desc.name.way v) (sym its_way)
 
-  endpoint_is : find (is_endpoint_named y.name.num way.Out) opened.endpoints ≡ Some (opened_endpoint k.text)
+  pub endpoint_is : find (is_endpoint_named y.name.num way.Out) opened.endpoints ≡ Some (opened_endpoint k.text)
   endpoint_is =
       find_map (is_endpoint_named y.name.num way.Out) opened_endpoint k.device.eps
       ∙ ap (option_map opened_endpoint)
@@ -80,12 +80,12 @@ module _ (w : Draft) (h : IsDeclaredDraft w) (name : Name) (x : EpDesc) (k : IsD
       (λ t _. opened_test t) own)
       ∙ k.text_is)
 
-  taker_there : taker_of_device y.name.addr y.name.num (Some opened) ≡ taker_of_part (opened_part y.name.way y.kind k.text)
+  pub taker_there : taker_of_device y.name.addr y.name.num (Some opened) ≡ taker_of_part (opened_part y.name.way y.kind k.text)
   taker_there =
       let z = found_first (is_endpoint_named y.name.num way.Out) opened.endpoints (opened_endpoint k.text) endpoint_is in
       device_taker opened y.name.addr y.name.num z.place (opened_endpoint k.text) text.address z.at z.here
 
-  device_there : slice_get (opening_bus (script_of w)).devices first.place ≡ Some opened
+  pub device_there : slice_get (opening_bus (script_of w)).devices first.place ≡ Some opened
   device_there =
       slice_get-map opening (map device_text w.devices) first.place
       ∙ ap (option_map opening) (slice_get-map device_text w.devices first.place ∙ ap (option_map device_text) first.here)
@@ -95,7 +95,7 @@ module _ (w : Draft) (h : IsDeclaredDraft w) (name : Name) (x : EpDesc) (k : IsD
   abbrev test : Seat → Bool
   test s = suits s.name y.name.addr y.name.num Out
 
-  no_hubs : AllByRecursion (λ (x : HubText). (x.addr == k.device.addr) ≡ false) w.hubs
+  pub no_hubs : AllByRecursion (λ (x : HubText). (x.addr == k.device.addr) ≡ false) w.hubs
   no_hubs =
       none_each (λ (x : HubText). x.addr == k.device.addr) w.hubs
       (nth_all (λ a. hub_of w.hubs a ≡ None) (addresses w.devices) first.place k.device.addr h.no_hub
@@ -107,7 +107,7 @@ module _ (w : Draft) (h : IsDeclaredDraft w) (name : Name) (x : EpDesc) (k : IsD
       (named_owners k.device.addr first.place (seats_from 0 (map device_text w.devices)) w.endpoints
       (owners w.endpoints k.device.addr first.place 0 first.place w.devices k.device first.here refl (omega arith) root h.apart h.own))
 
-  any_test : list_any test seats ≡ true
+  pub any_test : list_any test seats ≡ true
   any_test =
       any_later test (hub_seats_from 0 w.hubs) _
       (has_out_seat w.endpoints first.place w.devices k.device (is_named name) k.text first.here k.text_is isout text.listed)

@@ -9,11 +9,12 @@
 //! - `sent_events`: The qTDs of each OUT endpoint are sent whole and in turn, so too.
 //! - `takers`: Each OUT endpoint has its taker on the bus; and where what it took begins what was put, so it is in the report.
 //! - `what_was_put`: What each device took begins what was put, so the OUT streams are right too.
-//! - `worked`, `puts_worked`: Worked rows.
+//! - `worked`, `below_worked`, `puts_worked`: Worked rows.
 //!
 //! The module has no code of its own: each function is a law, and its body is empty.
 
 pub mod below_hubs;
+pub mod below_worked;
 pub mod keeping;
 pub mod piped_events;
 pub mod puts_worked;

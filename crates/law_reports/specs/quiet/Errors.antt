@@ -5,7 +5,9 @@
 --     TokenHasLeft, HostHasLeft      so it is of a token, and of the host's side of a transaction
 --     PartHasLeft Q n part           .. of the queue head at n and of its qTDs
 --     HandHasLeft Q hand             .. of what is in hand, and isn't written back yet
---     PublishesLeft made command     .. of the first qTD of a transfer, which is being stored
+--     IsFirstQtd t                   the first qTD of a transfer as it is stored: no microframe is missed, it isn't halted, has errors left and
+--                                    begins with a start-split, and a SETUP has its eight bytes
+--     PublishesLeft made command     so is that of a transfer which is being stored
 use Rattle.std.specs.Prelude.{◌≡◌, ◌≢◌, ℕ, ◌≤◌, Bool, true, false, Option, Some}
 use Rattle.qh_qtd.specs.declared.qtd.Qtd.{Qtd}
 use Rattle.qh_qtd.specs.declared.queue_head.Qh.{Qh}
@@ -52,9 +54,15 @@ HandHasLeft Q (Copied c) = Unit {0}
 HandHasLeft Q (Settled c z) = HostHasLeft Q (key_of c.queue) c.queue.token.pid z.host
 HandHasLeft Q (Stale n q) = Unit {0}
 
+pub record IsFirstQtd (t : Qtd) : Type 0 where
+  pub met : t.token.missed ≡ false
+  pub goes : t.token.halted ≡ false
+  pub counts : t.token.cerr ≢ 0
+  pub begins : t.token.split_state ≡ false
+  pub setup : pid_at t.token.pid ≡ Setup → t.token.total ≡ 8
+
 -- once the others of its transfer are lent; whatever queue head it is of
 abbrev pub PublishesLeft : ℕ → Option Command → Type 0
 PublishesLeft made (Some (unfinished.Publish b words)) =
-    1 ≤ made → (t : Qtd) → words ≡ qtd_words t → IsQtdInRange t
-    → (t.token.missed ≡ false) × ((t.token.halted ≡ false) × ((t.token.cerr ≢ 0) × (pid_at t.token.pid ≡ Setup → t.token.total ≡ 8)))
+    1 ≤ made → (t : Qtd) → words ≡ qtd_words t → IsQtdInRange t → IsFirstQtd t
 PublishesLeft made _ = Unit {0}

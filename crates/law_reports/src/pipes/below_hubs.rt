@@ -8,6 +8,16 @@ ghost use Rattle.law_reports.specs.pipes.below_hubs.Controlled.{
   ControllerLeavesIn,
 };
 ghost use Rattle.law_reports.specs.pipes.below_hubs.Steps.{StepKeepsOutBehind, StepKeepsInBehind};
+ghost use Rattle.law_reports.specs.pipes.below_hubs.BehindLaws.{
+  ControllerKeepsBehind,
+  DriverKeepsBehind,
+  CommandKeepsBehind,
+  TextsOpenSpots,
+  NewWorldIsBehind,
+  ScriptsAreBehind,
+  TextsAreBehind,
+};
+ghost use Rattle.law_reports.specs.pipes.below_hubs.BelowLaws.{TextsKeepBelowStreams, TextsKeepStreams};
 
 /// Each step of a queue leaves host, hub and device of such an endpoint as they must stand, while its queue head is still met.
 pub fn a_step_keeps_a_pipe_below()
@@ -26,4 +36,25 @@ pub fn an_event_keeps_a_pipe_below()
 pub fn an_event_leaves_an_unmet_pipe_below()
     ensures outward { ControllerLeavesOut }
     ensures inward { ControllerLeavesIn }
+{}
+
+/// Each event and each command leaves the OUT endpoints as they must stand, with what was put to them, also those that have left.
+pub fn an_event_keeps_outs_below()
+    ensures controller { ControllerKeepsBehind }
+    ensures driver { DriverKeepsBehind }
+    ensures command { CommandKeepsBehind }
+{}
+
+/// So they stand at each moment of each script, whatever endpoints it opens.
+pub fn each_moment_has_outs_below()
+    ensures spots { TextsOpenSpots }
+    ensures opening { NewWorldIsBehind }
+    ensures scripts { ScriptsAreBehind }
+    ensures texts { TextsAreBehind }
+{}
+
+/// So their streams are right at each moment of each script, and after its run.
+pub fn each_script_keeps_outs_below()
+    ensures below { TextsKeepBelowStreams }
+    ensures streams { TextsKeepStreams }
 {}

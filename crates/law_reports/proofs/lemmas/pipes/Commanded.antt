@@ -104,7 +104,7 @@ module _ (fixed : Fixed) (x : Sides) (s : Standing) (m : Lines) (h : Heads) (w :
     module _ (y : Endpoint) (ends : o.driver.endpoints ≡ w.driver.endpoints ++ y ∷ []) (kept : y.gone ≡ false)
         (newest : IsNewest o.driver y)
         (fits : IsDeclared x y.desc) where
-      which : (e : ℕ) (z : Endpoint) → slice_get o.driver.endpoints e ≡ Some z
+      pub which : (e : ℕ) (z : Endpoint) → slice_get o.driver.endpoints e ≡ Some z
           → (slice_get w.driver.endpoints e ≡ Some z) ⊎ ((e ≡ length w.driver.endpoints) × (z ≡ y))
       which e z here = push_which w.driver.endpoints y e z (ap (λ (xs : List Endpoint). slice_get xs e) (sym ends) ∙ here)
 
@@ -112,7 +112,7 @@ module _ (fixed : Fixed) (x : Sides) (s : Standing) (m : Lines) (h : Heads) (w :
       now_more e v here = ap (λ (xs : List Endpoint). slice_get xs e) ends ∙ pushed w.driver.endpoints y e v here
 
       -- it isn't met
-      unmet : (e : ℕ) → IsNewest o.driver y → IsMet (queued o.driver) e (queued_endpoint y) → ⊥
+      pub unmet : (e : ℕ) → IsNewest o.driver y → IsMet (queued o.driver) e (queued_endpoint y) → ⊥
       unmet e (is_opening queue opens made) met =
           met.there.linked (opens ∙ ap (λ (q : ℕ). Some (unfinished.Open q)) (sym (queue_same y)))
       unmet e (is_bare iso none) met = true≢false (sym iso ∙ (kept_as y met.there.kept).1)
@@ -157,7 +157,7 @@ module _ (fixed : Fixed) (x : Sides) (s : Standing) (m : Lines) (h : Heads) (w :
           (has_queue y queue kept) (λ same. omega (arith, low, same)) (same_queue v.queue y.queue (sym opening.command ∙ opens))
       none_opens e v here opening (is_bare iso none) = none_some (unfinished.Open v.queue) (sym none ∙ opening.command)
 
-      fresh_more : (way : Way) (has : ℕ → ℕ → Bool) (P : ℕ → ℕ → Type 0) → AreFresh w.driver way has P → AreFresh o.driver way has P
+      pub fresh_more : (way : Way) (has : ℕ → ℕ → Bool) (P : ℕ → ℕ → Type 0) → AreFresh w.driver way has P → AreFresh o.driver way has P
       fresh_more way has P fresh addr ep on unused =
           fresh addr ep on
           (λ e v here its same also. absurd (none_opens e v here (unused e v (now_more e v here) its same also) newest))

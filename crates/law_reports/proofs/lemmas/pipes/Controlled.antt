@@ -160,18 +160,18 @@ module _ (fixed : Fixed) (x : Sides) (s : Standing) (m : Lines) (h : Heads) (w :
 
   -- ---- endpoints that aren't met
 
-  off : (e : ℕ) (y : Endpoint) → slice_get w.driver.endpoints e ≡ Some y → (queued_endpoint y).gone ≡ false
+  pub off : (e : ℕ) (y : Endpoint) → slice_get w.driver.endpoints e ≡ Some y → (queued_endpoint y).gone ≡ false
       → (IsMet (queued w.driver) e (queued_endpoint y) → ⊥) → s.near (32 * y.queue) ≡ false
   off e y here kept unmet = unmet_off w.driver s.near owners near_are e y here kept unmet
 
-  moved_same : (n : ℕ) → s.near n ≡ false → concat (goes.moved n) ≡ concat (m.acc n)
+  pub moved_same : (n : ℕ) → s.near n ≡ false → concat (goes.moved n) ≡ concat (m.acc n)
   moved_same n none =
       goes.adds n ∙ ap (λ (bs : List ℕ). concat (m.acc n) ++ bs)
       (none_moved begins_by (IsIsoAsk (both s.descs s.parts)) transacts_by s.near h.ends s.parts (joined s.hand s.frame) wire after
       (parts_now s.descs s.parts c.event.now) (joined c.event.later c.event.frame_later) asked n none z) ∙ append-nil (concat (m.acc n))
 
   -- while it is opened
-  unopened_met : (e : ℕ) (y : Endpoint) → IsOpening w.driver y → IsMet (queued w.driver) e (queued_endpoint y) → ⊥
+  pub unopened_met : (e : ℕ) (y : Endpoint) → IsOpening w.driver y → IsMet (queued w.driver) e (queued_endpoint y) → ⊥
   unopened_met e y opening met =
       met.there.linked (opening.command ∙ ap (λ (q : ℕ). Some (unfinished.Open q)) (sym (queue_same y)))
 
@@ -215,7 +215,7 @@ module _ (fixed : Fixed) (x : Sides) (s : Standing) (m : Lines) (h : Heads) (w :
 
   -- ---- endpoints that left
 
-  unmet_by : (e : ℕ) (y : Endpoint) → may_meet (queued w.driver) e (queued_endpoint y) ≡ false
+  pub unmet_by : (e : ℕ) (y : Endpoint) → may_meet (queued w.driver) e (queued_endpoint y) ≡ false
       → IsMet (queued w.driver) e (queued_endpoint y) → ⊥
   unmet_by e y unmet met = true≢false (sym met.near ∙ unmet)
 

@@ -87,7 +87,7 @@ module _ (fixed : Fixed) (x : Sides) (s : Standing) (m : Lines) (h : Heads) (w :
     refused_tells : (name : EpName) → told_to (refused_line w.driver line (name_in cmd) why) name ≡ told_to w.driver name
     refused_tells = refusals_tell_nothing w.driver refused _ refl refl refl
 
-    refused_left : (way : Way) (has : ℕ → ℕ → Bool) (P : ℕ → ℕ → List ℕ → Type 0)
+    pub refused_left : (way : Way) (has : ℕ → ℕ → Bool) (P : ℕ → ℕ → List ℕ → Type 0)
         → ((e : ℕ) (y : Endpoint) → slice_get w.driver.endpoints e ≡ Some y → y.desc.name.way ≡ way
         → has y.desc.name.addr y.desc.name.num ≡ true → IsThere (queued w.driver) (queued_endpoint y)
         → P y.desc.name.addr y.desc.name.num (concat (m.acc (32 * y.queue)))) → AreLeft w.driver m.acc way has P
@@ -103,7 +103,7 @@ module _ (fixed : Fixed) (x : Sides) (s : Standing) (m : Lines) (h : Heads) (w :
       there.linked (opens ∙ ap (λ (q : ℕ). Some (unfinished.Open q)) (sym (queue_same y)))
   no_newest f y (is_bare iso none) there = true≢false (sym iso ∙ (kept_as y there.kept).1)
 
-  was_by : (f : DriverContent) (cmd : Cmd) → EndsThen w.driver f cmd → (e : ℕ) (z : Endpoint) → slice_get f.endpoints e ≡ Some z
+  pub was_by : (f : DriverContent) (cmd : Cmd) → EndsThen w.driver f cmd → (e : ℕ) (z : Endpoint) → slice_get f.endpoints e ≡ Some z
       → (IsThere (queued f) (queued_endpoint z)) ⊎ (z.gone ≡ true) → WasIn w.driver.endpoints e z
   was_by f cmd (one_more y asked ends kept newest tells) e z here which =
       ⊎_elim (λ (at : slice_get w.driver.endpoints e ≡ Some z). record { endpoint = z; here = at; comes = itself z })
@@ -124,7 +124,7 @@ module _ (fixed : Fixed) (x : Sides) (s : Standing) (m : Lines) (h : Heads) (w :
       ap (λ (rs : List Report). told_in f.store (lines_in name rs)) tells.reports
       ∙ ap (λ (bytes : List ℕ). told_in bytes (lines_in name w.driver.reports)) tells.store
 
-  accepted_left : (f : DriverContent) (cmd : Cmd) → (queued w.driver).command ≡ None → EndsThen w.driver f cmd → (way : Way)
+  pub accepted_left : (f : DriverContent) (cmd : Cmd) → (queued w.driver).command ≡ None → EndsThen w.driver f cmd → (way : Way)
       (has : ℕ → ℕ → Bool) (P : ℕ → ℕ → List ℕ → Type 0)
       → ((e : ℕ) (y : Endpoint) → slice_get w.driver.endpoints e ≡ Some y → y.desc.name.way ≡ way
       → has y.desc.name.addr y.desc.name.num ≡ true → IsThere (queued w.driver) (queued_endpoint y)

@@ -69,7 +69,7 @@ module _ (d : DriverContent) (m : Mem) (owners : HasOwners d) (member : ℕ → 
   made_as : (c : Command) → d.command ≡ Some c → (queued d).made ≡ queued_made (Some c) d.made
   made_as c is = ap (λ (o : Option Command). queued_made o d.made) is
 
-  of_ring : IsOpenReady d m → IsReadyHead d m
+  pub of_ring : IsOpenReady d m → IsReadyHead d m
   of_ring r = record {
     number = r.number;
     endpoint = r.endpoint;

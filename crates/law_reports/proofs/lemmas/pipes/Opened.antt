@@ -69,10 +69,10 @@ module _ (fixed : Fixed) (x : Sides) (s : Standing) (m : Lines) (h : Heads) (w :
   abbrev new : World
   new = driver_next w
 
-  owners : HasOwners w.driver
+  pub owners : HasOwners w.driver
   owners = k.mixed.now.framed.place.sound.owners
 
-  near_are : AreMet (queued w.driver) s.near
+  pub near_are : AreMet (queued w.driver) s.near
   near_are = k.mixed.queues.queues.met
 
   -- ---- who was opened
@@ -80,10 +80,10 @@ module _ (fixed : Fixed) (x : Sides) (s : Standing) (m : Lines) (h : Heads) (w :
   pub its : WasQueued w.driver.endpoints at.number at.endpoint
   its = was_queued w.driver.endpoints at.number at.endpoint at.here
 
-  abbrev y : Endpoint
+  abbrev pub y : Endpoint
   y = its.endpoint
 
-  queue_is : at.endpoint.queue ≡ y.queue
+  pub queue_is : at.endpoint.queue ≡ y.queue
   queue_is = ap (λ (z : Endpoint). z.queue) its.is ∙ queue_same y
 
   abbrev n : ℕ
@@ -92,10 +92,10 @@ module _ (fixed : Fixed) (x : Sides) (s : Standing) (m : Lines) (h : Heads) (w :
   alive : at.endpoint.gone ≡ false
   alive = linked_stands_alive at.endpoint (k.mixed.turns.turns.asynchronous.endpoints at.number at.endpoint at.here) at.fresh
 
-  kept : (y.gone ≡ false) × (is_iso y.desc.kind ≡ false)
+  pub kept : (y.gone ≡ false) × (is_iso y.desc.kind ≡ false)
   kept = kept_as y (sym (ap (λ (z : Endpoint). z.gone) its.is) ∙ alive)
 
-  opening : IsOpening w.driver y
+  pub opening : IsOpening w.driver y
   opening = record {
     kept = kept.0;
     queue = kept.1;
@@ -118,7 +118,7 @@ module _ (fixed : Fixed) (x : Sides) (s : Standing) (m : Lines) (h : Heads) (w :
   head_there = subst (λ (q : ℕ). IsNewHead s (32 * q) (asked_as y.desc)) (sym queue_is)
       (k.new_heads at.number y its.here opening (made_once s w k.mixed at))
 
-  head_then : IsNewHead t (32 * at.endpoint.queue) (asked_as y.desc)
+  pub head_then : IsNewHead t (32 * at.endpoint.queue) (asked_as y.desc)
   head_then =
       let same : SameTold (in_hand s) s.parts (in_hand t) t.parts = stays_tells_one_hand s t opened.told in
       record {
@@ -129,14 +129,14 @@ module _ (fixed : Fixed) (x : Sides) (s : Standing) (m : Lines) (h : Heads) (w :
   -- ---- its name
 
   -- no other endpoint has it
-  its_name : (e : ℕ) (v : Endpoint) → slice_get w.driver.endpoints e ≡ Some v → v.desc.name.way ≡ y.desc.name.way
+  pub its_name : (e : ℕ) (v : Endpoint) → slice_get w.driver.endpoints e ≡ Some v → v.desc.name.way ≡ y.desc.name.way
       → v.desc.name.addr ≡ y.desc.name.addr → v.desc.name.num ≡ y.desc.name.num → (e ≡ at.number) × (v ≡ y)
   its_name e v there way same also =
       let one : e ≡ at.number = told_apart w.driver (in_hand s) s.parts m.reported k.telling.told e at.number v y there its.here
       (name_is v.desc.name y.desc.name same also way) in
       (one, same_Some v y (sym there ∙ ap (slice_get w.driver.endpoints) one ∙ its.here))
 
-  unused : (way : Way) → y.desc.name.way ≡ way → IsUnused w.driver way y.desc.name.addr y.desc.name.num
+  pub unused : (way : Way) → y.desc.name.way ≡ way → IsUnused w.driver way y.desc.name.addr y.desc.name.num
   unused way is e v there its_way same also =
       subst (IsOpening w.driver) (sym (its_name e v there (its_way ∙ sym is) same also).1) opening
 
@@ -275,11 +275,11 @@ module _ (fixed : Fixed) (x : Sides) (s : Standing) (m : Lines) (h : Heads) (w :
   no_command = alike.command
 
   -- the one that was opened, or one that was met before
-  near_was : (i : ℕ) → t.near i ≡ true → i ≢ 32 * at.endpoint.queue → s.near i ≡ true
+  pub near_was : (i : ℕ) → t.near i ≡ true → i ≢ 32 * at.endpoint.queue → s.near i ≡ true
   near_was i on differs =
       sym (ap (λ (c : Bool). c || s.near i) (other_number i n differs)) ∙ sym (ap (λ (near : ℕ → Bool). near i) opened.near) ∙ on
 
-  opened_one : (e : ℕ) (z : Endpoint) → slice_get (driver_next w).driver.endpoints e ≡ Some z
+  pub opened_one : (e : ℕ) (z : Endpoint) → slice_get (driver_next w).driver.endpoints e ≡ Some z
       → IsMet (queued (driver_next w).driver) e (queued_endpoint z) → 32 * z.queue ≡ 32 * at.endpoint.queue → z.desc ≡ y.desc
   opened_one e z here met same =
       let v : WasIn w.driver.endpoints e z = was_end fixed x s m h w k e z here in
@@ -290,7 +290,7 @@ module _ (fixed : Fixed) (x : Sides) (s : Standing) (m : Lines) (h : Heads) (w :
       (ap (λ (q : ℕ). 32 * q) (sym v.comes.queue) ∙ same ∙ ap (λ (q : ℕ). 32 * q) queue_is) in
       v.comes.desc ∙ ap (λ (u : Endpoint). u.desc) (same_Some v.endpoint y (sym v.here ∙ ap (slice_get w.driver.endpoints) one ∙ its.here))
 
-  met_before : (e : ℕ) (z : Endpoint) → slice_get (driver_next w).driver.endpoints e ≡ Some z
+  pub met_before : (e : ℕ) (z : Endpoint) → slice_get (driver_next w).driver.endpoints e ≡ Some z
       → (met : IsMet (queued (driver_next w).driver) e (queued_endpoint z)) → 32 * z.queue ≢ 32 * at.endpoint.queue
       → WasMet w.driver (driver_next w).driver s.near t.near owners near_are mixed.queues.queues.met
       (λ i u there its_met. was_end fixed x s m h w k i u there) e z

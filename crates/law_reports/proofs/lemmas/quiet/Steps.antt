@@ -55,7 +55,7 @@ use Rattle.law_world.specs.memory.Steps.{HandStays, same_hand, linked_hand, Fram
 use Rattle.law_world.specs.memory.Steps.{IsNextStore, QueueStep, stays, harvests, returns, lends, stores, mends, begins, opens, unlinks}
 use Rattle.law_world.specs.memory.Steps.{narrows, goes}
 use Rattle.law_world.specs.memory.SameQueues.{IsRelinked}
-use Rattle.law_reports.specs.quiet.Errors.{Key, key_of, TokenHasLeft, PartHasLeft, HandHasLeft, PublishesLeft}
+use Rattle.law_reports.specs.quiet.Errors.{Key, key_of, TokenHasLeft, PartHasLeft, HandHasLeft, IsFirstQtd, PublishesLeft}
 use Rattle.law_reports.proofs.lemmas.pipes.Across.{StaysOrEnds, row_command}
 use Rattle.law_reports.proofs.lemmas.pipes.NewHeads.{IsReadyHead, none_told, r as ready_head, one_queue, head_is}
 use Rattle.law_reports.proofs.lemmas.quiet.Writing.{head_put, element_put, part_fewer, without_left, linked_left, stale_left}
@@ -130,9 +130,6 @@ module _ (Q : Key → Bool) where
 
 -- ---- the command that is unfinished
 
-abbrev IsFirst : Qtd → Type 0
-IsFirst t = (t.token.missed ≡ false) × ((t.token.halted ≡ false) × ((t.token.cerr ≢ 0) × (pid_at t.token.pid ≡ Setup → t.token.total ≡ 8)))
-
 abbrev publishes : Option Command → Bool
 publishes (Some (unfinished.Publish b words)) = true
 publishes _ = false
@@ -149,16 +146,22 @@ none_left made None none = tt
 module _ (s : Standing) (w : World) (mixed : IsMixedAt s w) where
   -- the first qTD of what is to be lent is a new one
   lent_left : (b : ℕ) (words : List ℕ) → IsToBeLent (queued w.driver) w.memory b words → (t : Qtd) → words ≡ qtd_words t → IsQtdInRange t
-      → IsFirst t
+      → IsFirstQtd t
   lent_left b words get t is range =
       let d = queued w.driver in
       let sound = mixed.now.framed.place.sound in
       let setup : Qtd = stage_qtd d.notes get.stage get.transfer.first get.endpoint.dummy (is_last get.further) in
-      subst IsFirst
+      subst IsFirstQtd
       (sym (one_qtd t setup range (ranged d w.memory sound.stands sound.shape get.stage get.transfer.first get.endpoint.dummy
       (is_last get.further)
       get.awaits.pids.0 get.awaits.short.0 get.awaits.noted.0) (sym is ∙ get.are)))
-      (refl, (refl, (λ none. three none, λ pid. (stages_whole get.endpoint.desc.name.way (get.stage ∷ get.further) get.stages).0 pid)))
+      (record {
+        met = refl;
+        goes = refl;
+        counts = λ none. three none;
+        begins = refl;
+        setup = λ pid. (stages_whole get.endpoint.desc.name.way (get.stage ∷ get.further) get.stages).0 pid;
+      })
     where
       three : ◌≡◌ {A = ℕ} 3 0 → ⊥
       three e = cc
@@ -227,7 +230,7 @@ accepted_publishes d w o (unchains k) =
     ∙ ended (with_cancel d k.number k.endpoint (endpoint_members d k.number k.endpoint k.placement)) (unfinished.Unchain k.number)
     (unchained (no_command (with_cancel d k.number k.endpoint (endpoint_members d k.number k.endpoint k.placement))) k.number _ refl) refl)
 
-command_by : (w : World) (line : ℕ) (cmd : Cmd) (name : EpName) (r : Result Offered OfferError) → offered w.driver w.memory cmd ≡ r
+pub command_by : (w : World) (line : ℕ) (cmd : Cmd) (name : EpName) (r : Result Offered OfferError) → offered w.driver w.memory cmd ≡ r
     → PublishesLeft w.driver.made w.driver.command
     → PublishesLeft (commanded_by w line name r).driver.made (commanded_by w line name r).driver.command
 command_by w line cmd name (Ok o) is old = accepted_publishes w.driver w o (each_command_has_its_reason w.driver w.memory cmd o is)
@@ -333,7 +336,7 @@ module _ (Q : Key → Bool) (s : Standing) (w : World) (mixed : IsMixedAt s w) (
       (is : IsNextStore s w new b words g) where
     first_by : (c : Option Command) → queued_command w.driver.endpoints c ≡ Some (unfinished.Publish b words)
         → 1 ≤ queued_made c w.driver.made → PublishesLeft w.driver.made c
-        → IsFirst g.qtd
+        → IsFirstQtd g.qtd
     first_by (Some (unfinished.Publish c others)) same some old = old some g.qtd (its_words c others same ∙ g.are) g.range
       where
         its_words : (c : ℕ) (others : List ℕ) → ◌≡◌ {A = Option Command} (Some (unfinished.Publish c others)) (Some
@@ -352,10 +355,10 @@ module _ (Q : Key → Bool) (s : Standing) (w : World) (mixed : IsMixedAt s w) (
         element_put Q s.parts (32 * g.endpoint.queue) (32 * b) (partly g.qtd (queued w.driver).made)
         (λ q here. partly_left Q (key_of q) g.qtd (queued w.driver).made
         (record {
-          met = λ high. f.0;
-          going = λ on act. f.1.1.0;
-          stopped = λ on act. absurd (true≢false (sym act ∙ f.1.0));
-          setup = λ on pid act. f.1.1.1 pid;
+          met = λ high. f.met;
+          going = λ on act. f.counts;
+          stopped = λ on act. absurd (true≢false (sym act ∙ f.goes));
+          setup = λ on pid act. f.setup pid;
         })) n (k n)
 
   -- ---- a step

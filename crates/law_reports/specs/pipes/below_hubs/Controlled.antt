@@ -24,7 +24,7 @@ use Rattle.law_ring.specs.Pipes.{IsIn}
 use Rattle.law_ring.specs.Told.{Endpoint as Told}
 use Rattle.law_driver_ring.specs.fed_queues.Places.{IsMet}
 use Rattle.law_descriptors.specs.queue_events.Streams.{bytes_of_both}
-use Rattle.law_below_hubs.specs.HostEvents.{told_key, IsOutBehind, IsInBehind, SparesKeyNow}
+use Rattle.law_below_hubs.specs.HostEvents.{told_key, IsOutBehind, IsInBehind, KeepsSent, SparesKeyNow}
 use Rattle.law_below_hubs.specs.HostIns.{InSide}
 use Rattle.law_below_hubs.specs.HostOuts.{OutSide}
 use Rattle.law_world.specs.steps.Streaming.{wired}
@@ -62,9 +62,11 @@ abbrev pub ControllerKeepsOutBelow : Type 0
 ControllerKeepsOutBelow = (fixed : Fixed) (x : Sides) (s : Standing) (m : Lines) (h : Heads) (w : World) → IsPiped fixed x s m h w
     → AskTheirWays s w.driver → (c : IsMixedControlled fixed s w) → (z : EventOf fixed s w c.event) → (e : ℕ) (y : Endpoint)
     → IsWatched w.driver ways.Out e y → (i place : ℕ) (known : List ℕ)
-    → IsOutBehind (wired fixed w) i place known s.parts (in_hand s) (32 * y.queue) (asked_as y.desc)
-    → IsOutBehind (wired fixed (controller_next fixed w)) i place (known ++ bytes_of_both (32 * y.queue) z)
-    (standing_then s w c.event).parts (in_hand (standing_then s w c.event)) (32 * y.queue) (asked_as y.desc)
+    → (k : IsOutBehind (wired fixed w) i place known s.parts (in_hand s) (32 * y.queue) (asked_as y.desc))
+    → (b : IsOutBehind (wired fixed (controller_next fixed w)) i place (known ++ bytes_of_both (32 * y.queue) z)
+    (standing_then s w c.event).parts (in_hand (standing_then s w c.event)) (32 * y.queue) (asked_as y.desc))
+    × KeepsSent (s.parts (32 * y.queue)) ((standing_then s w c.event).parts (32 * y.queue)) k.queue.token.active k.host.next b.host.next
+    (bytes_of_both (32 * y.queue) z)
 
 abbrev pub ControllerKeepsInBelow : Type 0
 ControllerKeepsInBelow = (fixed : Fixed) (x : Sides) (s : Standing) (m : Lines) (h : Heads) (w : World) → IsPiped fixed x s m h w

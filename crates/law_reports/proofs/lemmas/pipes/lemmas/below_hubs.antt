@@ -3,3 +3,16 @@ pub mod Steps
 pub mod HubStays
 pub mod Asked
 pub mod Controlled
+pub mod Going
+pub mod Starting
+pub mod BehindControlled
+pub mod InsSteps
+pub mod NewOuts
+pub mod BehindDriven
+pub mod BehindCommanded
+pub mod BelowTakers
+pub mod BelowTexts
+pub mod BehindMoments
+pub mod BelowReporting
+pub mod BelowKept
+pub mod BelowSampled

@@ -25,7 +25,7 @@ use Rattle.law_controller.specs.frame_stores.Stores.{frame_linked}
 use Rattle.law_frames.specs.FrameHand.{FrameHand, Nothing, OfQueue, OfSettled, OfItd, OfSitd, queue_hand}
 use Rattle.law_below_hubs.specs.HostEvents.{hand_host, RestsToStart, StartsFirst, told_key, IsOutBehind, IsInBehind}
 use Rattle.law_below_hubs.specs.HostIns.{InSide}
-use Rattle.law_below_hubs.specs.HostOuts.{shadow, OutSide, OutHost}
+use Rattle.law_below_hubs.specs.HostOuts.{out_key, shadow, OutSide}
 use Rattle.law_below_hubs.proofs.HostAsks.{host_toggle}
 use Rattle.law_world.specs.memory.Steps.{HandStays, same_hand, linked_hand, FrameStays, same_frame, linked_frame}
 use Rattle.law_world.proofs.lemmas.steps.Spared.{spared_pipe}
@@ -113,8 +113,9 @@ module _ (parts now : StructureSets) (hand later : Hand) (n pid : ℕ) (k : Spar
       by (Settled c z) = ap (λ (host : HostSide). if c.at == n then z.host else host) own
       by (Stale m old) = own
 
-  pub out_spared : (wire : Wired) (i place : ℕ) (known : List ℕ) (x : Endpoint) → pid ≡ 0 → IsOutBehind wire i place known parts hand n x
-      → IsOutBehind wire i place known now later n x
+  pub out_spared : (wire : Wired) (i place : ℕ) (known : List ℕ) (x : Endpoint) → pid ≡ 0
+      → (b : IsOutBehind wire i place known parts hand n x)
+      → (c : IsOutBehind wire i place known now later n x) × (c.host.next ≡ b.host.next)
   out_spared wire i place known x zero b =
       let h : HostSide = hand_host hand n b.queue in
       let s : Taker = shadow (hand_host hand n b.queue).toggle known b.host.next in
@@ -141,26 +142,34 @@ module _ (parts now : StructureSets) (hand later : Hand) (n pid : ℕ) (k : Spar
       let one : z.expects.queue ≡ o.queue = found_queue (now n n) z.expects.queue o.queue z.expects.head o.here in
       let toggle : z.toggle ≡ (hand_host hand n b.queue).toggle = z.expects.is ∙ sym (host_toggle later n z.expects.queue)
       ∙ ap (λ (q : Qh). (hand_host later n q).toggle) one ∙ ap (λ (host : HostSide). host.toggle) same in
-      record {
-        queue = o.queue;
-        head = o.here;
-        is = b.is ∙ sym o.overlay.endpoint;
-        below = b.below;
-        own = b.own;
-        outs = outs;
-        first = starts_stay b.first;
-        rests = subst RestsToStart (sym same) b.rests;
-        hub = b.hub;
-        host = subst (λ (host : HostSide). OutHost (now n) later n o.queue i place wire host.toggle host.waiting known) (sym same)
-            (record {
-              next = b.host.next;
-              side = subst (λ (key : Key). OutSide key i place wire h.toggle h.waiting known b.host.next)
-                  (ap (told_key Directions.Out) (sym o.overlay.endpoint)) b.host.side;
-              agrees = subst (λ (q : Qh). OutAgrees (now n) later n q h.toggle known s) one
-                  (subst (λ (toggle_now : Bool). OutAgrees (now n) later n z.expects.queue toggle_now known s) toggle
-                  (subst (OutAgrees (now n) later n z.expects.queue z.toggle known) (sym (same_Some s z.taker z.is)) z.agrees));
-            });
-      }
+      let agreed : OutAgrees (now n) later n o.queue h.toggle known s =
+      subst (λ (q : Qh). OutAgrees (now n) later n q h.toggle known s) one
+      (subst (λ (toggle_now : Bool). OutAgrees (now n) later n z.expects.queue toggle_now known s) toggle
+      (subst (OutAgrees (now n) later n z.expects.queue z.toggle known) (sym (same_Some s z.taker z.is)) z.agrees)) in
+      let side : OutSide (out_key o.queue) i place wire h.toggle h.waiting known b.host.next =
+      subst (λ (key : Key). OutSide key i place wire h.toggle h.waiting known b.host.next)
+      (ap (told_key Directions.Out) (sym o.overlay.endpoint)) b.host.side in (
+        record {
+          queue = o.queue;
+          head = o.here;
+          is = b.is ∙ sym o.overlay.endpoint;
+          below = b.below;
+          own = b.own;
+          outs = outs;
+          first = starts_stay b.first;
+          rests = subst RestsToStart (sym same) b.rests;
+          hub = b.hub;
+          host = record {
+            next = b.host.next;
+            side = subst (λ (host : HostSide). OutSide (out_key o.queue) i place wire host.toggle host.waiting known b.host.next) (sym same)
+                side;
+            agrees = subst
+                (λ (host : HostSide). OutAgrees (now n) later n o.queue host.toggle known (shadow host.toggle known b.host.next)) (sym same)
+                agreed;
+          };
+        },
+        refl,
+      )
 
   pub in_spared : (packets : List (List ℕ)) (wire : Wired) (i place : ℕ) (known : List ℕ) (x : Endpoint) → pid ≡ 1
       → IsInBehind packets wire i place known parts hand n x → IsInBehind packets wire i place known now later n x

@@ -236,7 +236,7 @@ module _ (sends takes : ℕ → ℕ → Bool) (ins outs : ℕ → Bool) (ends : 
         (λ (over : 8 ≤ (queued w.driver).made).
         let few = g.few in
         let eighth : (queued w.driver).made ≡ 8 = omega (arith, few, over) in
-        ap (λ (j : ℕ). (partly g.qtd j).token.split_state) eighth ∙ starts b words g.qtd next.command g.are)
+        ap (λ (j : ℕ). (partly g.qtd j).token.split_state) eighth ∙ starts b words g.qtd next.command next.made g.are g.range)
         (cases_lt (queued w.driver).made 8)
 
     stored_starts : Starts (parts_stored g)

@@ -62,7 +62,7 @@ use Rattle.law_reports.proofs.lemmas.pipes.lemmas.high_streams.Opened.{lines_ope
 
 -- ---- lists
 
-all_kept : {X : Type 0} (Q P : X → Type 0) (p : X → Bool) (xs : List X) → ((x : X) → Q x → p x ≡ true → P x) → AllByRecursion Q xs
+pub all_kept : {X : Type 0} (Q P : X → Type 0) (p : X → Bool) (xs : List X) → ((x : X) → Q x → p x ≡ true → P x) → AllByRecursion Q xs
     → AllByRecursion P (filter p xs)
 all_kept Q P p [] gives k = tt
 all_kept Q P p (x ∷ xs) gives k = kept (p x) refl (all_kept Q P p xs gives k.1)
@@ -77,7 +77,7 @@ all_kept Q P p (x ∷ xs) gives k = kept (p x) refl (all_kept Q P p xs gives k.1
 abbrev Opens : Script → Cmd → Type 0
 Opens s cmd = OpensOf s cmd × OpensItsSeat (fixed_of s).seats (lines.Command cmd)
 
-abbrev IsSeated : Script → EpDesc → Type 0
+abbrev pub IsSeated : Script → EpDesc → Type 0
 IsSeated s x = IsOpened s x × (IsDataWay x.name.way → HasSeat (fixed_of s).seats x)
 
 abbrev LineOpens : Script → Line → Type 0
@@ -97,7 +97,7 @@ opens_by : (s : Script) (cmd : Cmd) (desc : EpDesc) → Opens s cmd → open_in 
 opens_by s (commands.OpenEp x) desc k is = subst (IsSeated s) (same_Some x desc is) (k.0, k.1)
 opens_by s _ desc k is = absurd cc
 
-opened_seated : (s : Script) (r : WholeReport) → AllByRecursion (λ line. OpensItsSeat (fixed_of s).seats line.1) s.lines
+pub opened_seated : (s : Script) (r : WholeReport) → AllByRecursion (λ line. OpensItsSeat (fixed_of s).seats line.1) s.lines
     → AllByRecursion (IsSeated s) (opened s r)
 opened_seated s r has =
     all_mapped (Opens s) (IsSeated s) open_in (filter_map (accepted_in r) s.lines) (opens_by s)
@@ -115,7 +115,7 @@ claimed_high s x is =
     record { on = is; stream = both.0; speed = high_speed x.speed both.1 }
 
 -- a control endpoint has no stream
-not_control : (x : EpDesc) → has_stream x.kind ≡ true → FitsKind x → x.name.way ≢ ways.Ctl
+pub not_control : (x : EpDesc) → has_stream x.kind ≡ true → FitsKind x → x.name.way ≢ ways.Ctl
 not_control x stream fits is =
     let control : x.kind ≡ kinds.Control = subst (λ (v : Way). IsOfWay v x.kind) is fits in
     false≢true (sym (ap has_stream control) ∙ stream)

@@ -158,14 +158,14 @@ new_world_is_paid s fit bytes =
       };
     }
 
-abbrev CanBePaid : Sides → Cmd → Type 0
+abbrev pub CanBePaid : Sides → Cmd → Type 0
 CanBePaid x cmd = CanBe x cmd × IsByteCommand cmd
 
 line_paid : (x : Sides) (line : Line) → KindOfLine (CanBe x) line → IsByteLine line → KindOfLine (CanBePaid x) line
 line_paid x (lines.Command cmd) can bytes = (can, bytes)
 line_paid x _ can bytes = tt
 
-lines_paid : (x : Sides) (ls : List (ℕ × Line)) → AllByRecursion (λ l. KindOfLine (CanBe x) l.1) ls
+pub lines_paid : (x : Sides) (ls : List (ℕ × Line)) → AllByRecursion (λ l. KindOfLine (CanBe x) l.1) ls
     → AllByRecursion (λ l. IsByteLine l.1) ls
     → AllByRecursion (λ l. KindOfLine (CanBePaid x) l.1) ls
 lines_paid x [] can bytes = tt

@@ -376,7 +376,7 @@ module _ (s : Standing) (m : Lines) (w : World) (mixed : IsMixedAt s w) (telling
     asks_its_way e u here is_met ways.Ctl is =
         (refl, other_number (32 * u.queue) n (λ same. control_out (sym is ∙ its_way e u here is_met same)), refl, refl)
 
-    by_way : AreByWay (queued w.driver) none none off single s.ends
+    pub by_way : AreByWay (queued w.driver) none none off single s.ends
     by_way = record {
       each = λ e u here is_met. asks_its_way e u here is_met u.desc.name.way refl;
       head = (

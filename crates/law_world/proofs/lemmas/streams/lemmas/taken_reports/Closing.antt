@@ -29,7 +29,7 @@ use Rattle.law_world.specs.streams.taken_reports.Laws.{ClosingTellsTaker}
 
 -- ---- what it took
 
-taken_there : (d : Device) (name : EpName) (t : Taker) → name.way ≡ Ways.Out → (at : IsAtDevice name.addr name.num (Some d) t) → taken_of d name ≡ t.taken
+pub taken_there : (d : Device) (name : EpName) (t : Taker) → name.way ≡ Ways.Out → (at : IsAtDevice name.addr name.num (Some d) t) → taken_of d name ≡ t.taken
 taken_there d name t way at =
     subst (λ (z : Device). taken_of z name ≡ t.taken) (sym (same_Some d at.device at.is))
     (ap (λ (b : Bool). taken_from (endpoint_at at.device.endpoints (if b then place_named at.device.endpoints name.num name.way else None))) (eq-eqb name.addr at.device.address at.address)

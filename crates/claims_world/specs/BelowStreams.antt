@@ -1,0 +1,93 @@
+-- The streams of bulk OUT endpoints behind hubs, whatever else a script opens (EHCI 1.0, 4.6, 4.8, 4.10 and 4.12; USB 2.0, 5.8, 8.5, 8.6
+-- and 11.17): the bytes that the report tells of each begin what its device took, and these begin what is put to it, after the run, and at
+-- each moment of it (then of the puts that weren't refused so far); no line follows its end. A hub may have a packet in a buffer when its
+-- endpoint ends, and works on: so what a device took may grow behind that line. No request to a hub changes this, to clear a buffer
+-- (CLEAR_TT_BUFFER) or to reset a translator (RESET_TT).
+--     is_bulk_below x             x is a bulk OUT endpoint of a device that isn't at high speed
+--     has_hub s hub port          the script has the hub with this address, and it has this port
+--     is_claimed_below s x        x is such an endpoint behind a port of a hub of the script
+--     AreBelowTakenStreams s r    what is told of each that was opened begins what was taken, and it ends once
+--     AreBelowSentStreams s r     what was taken of each begins its stream
+--     AreBelowStreams s r         each that was opened has a right stream
+--     BelowOutsAreTaken s, BelowOutsAreSent s     so it is at each moment of the script
+--     BelowStreamsEndRight s      once no line is left to do these are whole: all of them are right
+--     KeepsBelowStreams s         all of this, at each moment of the script and after its run
+--     KeepsStreams s              .. and the streams of the endpoints at high speed
+use Rattle.std.specs.List.{AllByRecursion}
+use Rattle.std.specs.Option.{option_map_or}
+use Rattle.std.specs.Prelude.{◌≡◌, ℕ, ◌==◌, nat_le, ◌&&◌, not, Bool, true, false, [], length, filter, find, Option, Some, None}
+use Rattle.usb_base.specs.declared.endpoints.EpDesc.{EpDesc}
+use Rattle.usb_base.specs.declared.packets.EpKind.{EpKind}
+use Rattle.usb_base.specs.declared.packets.EpKind.TheVariants.{Bulk}
+use Rattle.script_types.specs.declared.devices.HubText.{HubText}
+use Rattle.script_types.specs.declared.scripts.Script.{Script}
+use Rattle.drv_table.specs.Words.{is_high}
+use Rattle.bus_wire.specs.Bus.{fixed_of}
+use Rattle.claims_report.specs.Reports.{WholeReport, taken}
+use Rattle.claims_report.specs.Streams.{opened, stream, IsRightStream}
+use Rattle.claims_driver.specs.Scripts.{receives}
+use Rattle.bus_world.specs.Budgets.{moment}
+use Rattle.bus_world.specs.Runs.{IsWholeRunOf}
+use Rattle.bus_world.specs.World.{Standing}
+use Rattle.claims_world.specs.HighStreams.{epoch_of, KeepsAllHighStreams}
+use Rattle.claims_world.specs.Streams.{report_of, IsTakenStream, IsTakenSent}
+
+-- ---- what is claimed
+
+abbrev pub is_bulk : EpKind → Bool
+is_bulk Bulk = true
+is_bulk _ = false
+
+abbrev pub is_bulk_below : EpDesc → Bool
+is_bulk_below x = is_bulk x.kind && (not (is_high x.speed) && not (receives x.name.way))
+
+-- ports have the numbers from 1 on (11.24.2)
+abbrev pub has_port : ℕ → HubText → Bool
+has_port port h = nat_le 1 port && nat_le port (length h.attached)
+
+abbrev pub has_hub : Script → Option ℕ → ℕ → Bool
+has_hub s None port = false
+has_hub s (Some hub) port = option_map_or (has_port port) (find (λ h. h.addr == hub) s.hubs) false
+
+abbrev pub is_claimed_below : Script → EpDesc → Bool
+is_claimed_below s x = is_bulk_below x && has_hub s x.hub x.port
+
+-- ---- a report
+
+abbrev pub AreBelowTakenStreams : Script → WholeReport → Type 0
+AreBelowTakenStreams s r =
+    AllByRecursion (λ desc. IsTakenStream (epoch_of r desc.name) desc.name) (filter (is_claimed_below s) (opened s r))
+
+abbrev pub AreBelowSentStreams : Script → WholeReport → Type 0
+AreBelowSentStreams s r =
+    AllByRecursion (λ desc. IsTakenSent (taken r desc.name) (stream s r desc.name)) (filter (is_claimed_below s) (opened s r))
+
+abbrev pub AreBelowStreams : Script → WholeReport → Type 0
+AreBelowStreams s r = AllByRecursion (λ desc. IsRightStream s (epoch_of r desc.name) desc.name) (filter (is_claimed_below s) (opened s r))
+
+-- ---- each moment
+
+abbrev pub BelowOutsAreTaken : Script → Type 0
+BelowOutsAreTaken s = (k : ℕ) → AreBelowTakenStreams s (report_of (fixed_of s) (moment s k).world)
+
+-- of the puts that weren't refused so far
+abbrev pub BelowOutsAreSent : Script → Type 0
+BelowOutsAreSent s = (k : ℕ) → AreBelowSentStreams s (report_of (fixed_of s) (moment s k).world)
+
+abbrev pub BelowStreamsEndRight : Script → Type 0
+BelowStreamsEndRight s = (k : ℕ) → (moment s k).orders ≡ [] → AreBelowStreams s (report_of (fixed_of s) (moment s k).world)
+
+-- ---- the script
+
+pub record KeepsBelowStreams (s : Script) : Type 0 where
+  pub taken_throughout : BelowOutsAreTaken s
+  pub sent_throughout : BelowOutsAreSent s
+  pub at_the_end : BelowStreamsEndRight s
+  -- after its run
+  pub taken : (w : Standing) → IsWholeRunOf s w → AreBelowTakenStreams s (report_of w.fixed w.world)
+  pub sent : (w : Standing) → IsWholeRunOf s w → AreBelowSentStreams s (report_of w.fixed w.world)
+  pub all : (w : Standing) → IsWholeRunOf s w → AreBelowStreams s (report_of w.fixed w.world)
+
+pub record KeepsStreams (s : Script) : Type 0 where
+  pub high : KeepsAllHighStreams s
+  pub below : KeepsBelowStreams s
