@@ -8,8 +8,8 @@ use Rattle.bus_world.specs.World.{Standing}
 use Rattle.bus_world.specs.Opening.{opening_world}
 use Rattle.bus_world.specs.Orders.{OrderedWorld, Leads, at_place, orders_of}
 use Rattle.bus_world.specs.Budgets.{moment}
-use Rattle.claims_world.specs.HighStreams.{KeepsAllHighStreams}
-use Rattle.law_reports.proofs.lemmas.pipes.lemmas.puts.PaidMoments.{texts_keep_all_high_streams}
+use Rattle.claims_world.specs.BelowStreams.{KeepsStreams}
+use Rattle.law_reports.proofs.lemmas.pipes.lemmas.below_hubs.BelowKept.{texts_keep_streams}
 use Rattle.bus_world.specs.Runs.{IsWholeRunOf}
 use Rattle.claims_world.specs.Misses.{MissesAreBelowThroughout}
 use Rattle.claims_world.specs.Quiet.{WhereHeardAbove, ErrorsAreBelowThroughout}
@@ -41,5 +41,5 @@ pub source_fails_below : (words : List (List ℕ)) (left : Option (List ℕ))
     → OfEachScript (WhereHeardAbove ErrorsAreBelowThroughout) words left
 source_fails_below = of_each (WhereHeardAbove ErrorsAreBelowThroughout) texts_fail_below
 
-pub source_keeps_streams : (words : List (List ℕ)) (left : Option (List ℕ)) → OfEachScript KeepsAllHighStreams words left
-source_keeps_streams = of_each KeepsAllHighStreams texts_keep_all_high_streams
+pub source_keeps_streams : (words : List (List ℕ)) (left : Option (List ℕ)) → OfEachScript KeepsStreams words left
+source_keeps_streams = of_each KeepsStreams texts_keep_streams

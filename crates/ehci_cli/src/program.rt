@@ -30,7 +30,7 @@ ghost use Rattle.claims_world.specs.Microframes.{MicroframesEnd};
 ghost use Rattle.claims_world.specs.Requests.{KeepsRequests};
 ghost use Rattle.app_forms.specs.Scripts.{OfEachScript};
 ghost use Rattle.claims_world.specs.Scripts.{WhereAsynchronous};
-ghost use Rattle.claims_world.specs.HighStreams.{KeepsAllHighStreams};
+ghost use Rattle.claims_world.specs.BelowStreams.{KeepsStreams};
 ghost use Rattle.claims_world.specs.Ends.{EndsOnce};
 ghost use Rattle.claims_world.specs.Misses.{MissesAreBelowThroughout};
 ghost use Rattle.claims_world.specs.Quiet.{WhereHeardAbove, ErrorsAreBelowThroughout};
@@ -131,6 +131,8 @@ use usb_base::{Sink, Source};
 /// stream, each once and in order, and nothing follows its end; those that it tells of each such OUT endpoint begin what its device took,
 /// and these begin what was put to it: after the run, and at each moment of it, when the puts are those that weren't refused so far;
 /// whatever is lost, damaged or held, and whatever else is asked and answers. After the run these are all its streams at high speed.
+/// The same holds of the bytes of each bulk OUT endpoint behind a hub of the script, whatever is asked of the hub; but its device may take
+/// more behind the line that tells its end.
 ///
 /// Whatever the script opens, no line follows the one that tells the end of a bulk, interrupt or isochronous endpoint, and nothing of it is
 /// pending then, at each moment and after the run. No line tells a missed microframe of an endpoint at high speed.
@@ -192,7 +194,7 @@ pub fn ehci<S: Source, K: Sink>(
     ensures splits_at_begin { OfEachScript KeepsSplits (map string_bytes words.now) (S.left source.old) }
     ensures sitds { OfEachScript SitdsAreServed (map string_bytes words.now) (S.left source.old) }
     ensures goes_on { OfEachScript KeepsToWork (map string_bytes words.now) (S.left source.old) }
-    ensures streams { OfEachScript KeepsAllHighStreams (map string_bytes words.now) (S.left source.old) }
+    ensures streams { OfEachScript KeepsStreams (map string_bytes words.now) (S.left source.old) }
     ensures ends { OfEachScript EndsOnce (map string_bytes words.now) (S.left source.old) }
     ensures misses { OfEachScript MissesAreBelowThroughout (map string_bytes words.now) (S.left source.old) }
     ensures errors { OfEachScript (WhereHeardAbove ErrorsAreBelowThroughout) (map string_bytes words.now) (S.left source.old) }
