@@ -5,7 +5,7 @@
 --     TokenHasLeft, HostHasLeft      so it is of a token, and of the host's side of a transaction
 --     PartHasLeft Q n part           .. of the queue head at n and of its qTDs
 --     HandHasLeft Q hand             .. of what is in hand, and isn't written back yet
---     IsFirstQtd t                   the first qTD of a transfer as it is stored: no microframe is missed, it isn't halted, has errors left and
+--     IsFirstQtd t                   the first qTD of a transfer as it is stored: nothing is missed, it isn't halted, has errors left and
 --                                    begins with a start-split, and a SETUP has its eight bytes
 --     PublishesLeft made command     so is that of a transfer which is being stored
 use Rattle.std.specs.Prelude.{◌≡◌, ◌≢◌, ℕ, ◌≤◌, Bool, true, false, Option, Some}
