@@ -5,7 +5,8 @@
  * touches anything but what it is passed, and each ends, whatever words stand in memory. What is said of a call here is proved of its
  * body; docs/LIBRARY.md shows the use in an emulator.
  *
- * Link with libehci.a, which calls malloc, realloc and free (one copy of the words at a time), and C's memory functions.
+ * Link with libehci.a, which calls malloc, realloc and free (ehci_microframe makes one copy of the words at a time), and C's memory
+ * functions.
  */
 #ifndef EHCI_H
 #define EHCI_H
@@ -181,18 +182,20 @@ enum {
     EHCI_SKIP,              /* there was nothing to do at the structure in hand */
     EHCI_END,               /* the microframe is over, or a host system error ended it */
     EHCI_STEP_WANTS_BUS,    /* a transaction is asked that has no answer */
-    EHCI_STEP_UNFIT,        /* as EHCI_UNFIT; or no controller has this state */
-    EHCI_STEP_NO_MEMORY     /* there was no memory for a copy of the words */
+    EHCI_STEP_UNFIT         /* more words than 4 GiB - 32 bytes have, too little room, or no controller has this state */
 };
 
-/* Makes one event: the row of the controller's table over the registers and the words that are passed. `answers` has no answer or one; a
- * row asks at most once.
+/* Makes one event: the row of the controller's table over the registers and the words that are passed, which are memory from address 0 on.
+ * They are as many as the caller likes, up to 1,073,741,816, and the event is made in them as they stand: nothing is copied. The controller
+ * reaches each whole block of eight words, and what lies past them is a host system error. `answers` has no answer or one; a row asks at
+ * most once.
  *
  * Up to EHCI_END: the event was made, the state is that of the controller after it, and the words are those that the row leaves.
  * EHCI_STEP_WANTS_BUS: the row asks `*ask`, and sends the first `ask->out_len` bytes of `out`. Call again with the answer, at once or later:
  * the state is the whole of it, so what asks may wait, and be saved, as long as it likes.
  *
- * From EHCI_STEP_WANTS_BUS on the state and the words stay as they were. What is said of words and pointers at ehci_microframe holds. */
+ * From EHCI_STEP_WANTS_BUS on the state and the words stay as they were. `out` has room for 1,024 bytes or more. What is said of pointers at
+ * ehci_microframe holds. */
 uint32_t ehci_step(struct ehci_whole *, uint32_t *words, size_t n, const struct ehci_answer *answers, size_t count, const uint8_t *bytes,
                    size_t len, struct ehci_ask *ask, uint8_t *out, size_t room);
 

@@ -282,7 +282,6 @@ pub enum Stepped {
     /// Nothing changed: this is asked, with so many bytes of `out`.
     WantsBus(Ask),
     Unfit,
-    NoMemory,
 }
 
 impl Whole {
@@ -330,8 +329,7 @@ impl Whole {
             6 => Stepped::Skip,
             7 => Stepped::End,
             8 => Stepped::WantsBus(ask),
-            9 => Stepped::Unfit,
-            _ => Stepped::NoMemory,
+            _ => Stepped::Unfit,
         }
     }
 }

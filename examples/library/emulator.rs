@@ -184,7 +184,7 @@ fn by_events() -> Ram {
                     hc.write(0x04, hc.registers.read(0x04) & 0x3f);
                 }
             }
-            Stepped::Idle | Stepped::Unfit | Stepped::NoMemory => return ram,
+            Stepped::Idle | Stepped::Unfit => return ram,
             _ => {}
         }
     }

@@ -14,11 +14,11 @@ use crate::naks::{count, mode_of, reloaded};
 use crate::rows::{WalkRow, fetched, visited};
 use crate::state::{AsyncState, Cursor, ReloadMode, WalkStep};
 use hc_copy::{Held, Transaction, raise, read_out, take_qtd, transact, write_back};
+use hc_memory::HcMemory;
 use link_words::Link;
 use op_registers::Registers;
 use qh_qtd::{Qh, Qtd};
 use usb_base::{Ps, Wire};
-use word_mem::WordMem;
 
 /// Answers the doorbell where the head of the ring was read.
 fn read_head(regs: &mut Registers)
@@ -105,12 +105,18 @@ impl AsyncState {
         }
     }
 
-    fn take(&mut self, at: u32, qtd: &Qtd, regs: &mut Registers, mem: &mut WordMem) -> WalkStep
+    fn take<M: HcMemory>(
+        &mut self,
+        at: u32,
+        qtd: &Qtd,
+        regs: &mut Registers,
+        mem: &mut M,
+    ) -> WalkStep
         requires aligned { at % 32 ≡ 0 }
         requires range { IsQtdInRange qtd.now }
-        ensures step { result ≡ took_step mem.old self.old.held }
-        ensures place { place self.new regs.new mem.new ≡ took at qtd.now (place self.old regs.old mem.old) self.old.held }
-        ensures only_lent { IsByController mem.old mem.new }
+        ensures step { result ≡ took_step (M.mem mem.old) self.old.held }
+        ensures place { place self.new regs.new (M.mem mem.new) ≡ took at qtd.now (place self.old regs.old (M.mem mem.old)) self.old.held }
+        ensures only_lent { IsByController (M.mem mem.old) (M.mem mem.new) }
     {
         let Some(held) = &mut self.held else {
             return WalkStep::Advance;
@@ -129,17 +135,18 @@ impl AsyncState {
     }
 
     /// The transaction, or the fault where a byte that it sends can't be read.
-    fn transact<W: Wire>(
+    fn transact<W: Wire, M: HcMemory>(
         &mut self,
         t: &Transaction,
         regs: &mut Registers,
-        mem: &mut WordMem,
+        mem: &mut M,
         wire: &mut W,
     ) -> WalkStep
         requires { CanBeMade t.now }
-        ensures step { result ≡ sent_step t.now mem.old self.old.held }
-        ensures row { Sends W.transacts t.now (place self.old regs.old mem.old) self.old.held wire.old (place self.new regs.new mem.new) wire.new }
-        ensures only_lent { IsByController mem.old mem.new }
+        ensures step { result ≡ sent_step t.now (M.mem mem.old) self.old.held }
+        ensures row { Sends W.transacts t.now (place self.old regs.old (M.mem mem.old)) self.old.held wire.old
+            (place self.new regs.new (M.mem mem.new)) wire.new }
+        ensures only_lent { IsByController (M.mem mem.old) (M.mem mem.new) }
     {
         let Some(held) = &mut self.held else {
             return WalkStep::Transact;
@@ -157,10 +164,10 @@ impl AsyncState {
         WalkStep::Transact
     }
 
-    fn write(&mut self, regs: &mut Registers, mem: &mut WordMem) -> WalkStep
-        ensures step { result ≡ wrote_step (place self.old regs.old mem.old) self.old.held }
-        ensures place { place self.new regs.new mem.new ≡ wrote (place self.old regs.old mem.old) self.old.held }
-        ensures only_lent { IsByController mem.old mem.new }
+    fn write<M: HcMemory>(&mut self, regs: &mut Registers, mem: &mut M) -> WalkStep
+        ensures step { result ≡ wrote_step (place self.old regs.old (M.mem mem.old)) self.old.held }
+        ensures place { place self.new regs.new (M.mem mem.new) ≡ wrote (place self.old regs.old (M.mem mem.old)) self.old.held }
+        ensures only_lent { IsByController (M.mem mem.old) (M.mem mem.new) }
     {
         let Some(held) = &self.held else {
             return WalkStep::WriteBack;
@@ -179,17 +186,18 @@ impl AsyncState {
 
     /// Makes an event of this kind.
     #[inline(always)]
-    fn make<W: Wire>(
+    fn make<W: Wire, M: HcMemory>(
         &mut self,
         row: WalkRow,
         regs: &mut Registers,
-        mem: &mut WordMem,
+        mem: &mut M,
         wire: &mut W,
     ) -> WalkStep
         requires { IsSound row }
-        ensures kind { result ≡ step_of row (place self.old regs.old mem.old) }
-        ensures row { Leads W.transacts row (place self.old regs.old mem.old) wire.old (place self.new regs.new mem.new) wire.new }
-        ensures only_lent { IsByController mem.old mem.new }
+        ensures kind { result ≡ step_of row (place self.old regs.old (M.mem mem.old)) }
+        ensures row { Leads W.transacts row (place self.old regs.old (M.mem mem.old)) wire.old (place self.new regs.new (M.mem mem.new))
+            wire.new }
+        ensures only_lent { IsByController (M.mem mem.old) (M.mem mem.new) }
     {
         match row {
             WalkRow::Fault => {
@@ -221,15 +229,16 @@ impl AsyncState {
 
 /// Makes one event; each kind of copy in hand makes its own row, so that a row's value is no larger than that kind needs.
 #[inline(always)]
-fn turn<W: Wire>(
+fn turn<W: Wire, M: HcMemory>(
     st: &mut AsyncState,
     regs: &mut Registers,
-    mem: &mut WordMem,
+    mem: &mut M,
     wire: &mut W,
 ) -> WalkStep
-    ensures kind { result ≡ step_of (event_row (place st.old regs.old mem.old)) (at_event (place st.old regs.old mem.old)) }
-    ensures row { Leads W.transacts (event_row (place st.old regs.old mem.old)) (at_event (place st.old regs.old mem.old)) wire.old (place st.new regs.new mem.new) wire.new }
-    ensures only_lent { IsByController mem.old mem.new }
+    ensures kind { result ≡ step_of (event_row (place st.old regs.old (M.mem mem.old))) (at_event (place st.old regs.old (M.mem mem.old))) }
+    ensures row { Leads W.transacts (event_row (place st.old regs.old (M.mem mem.old))) (at_event (place st.old regs.old (M.mem mem.old)))
+        wire.old (place st.new regs.new (M.mem mem.new)) wire.new }
+    ensures only_lent { IsByController (M.mem mem.old) (M.mem mem.new) }
 {
     st.start(regs);
     match &st.held {
@@ -255,20 +264,21 @@ fn turn<W: Wire>(
 ///   past the last page or isn't Lent. Then Host System Error stands and Run is 0.
 /// - Else it makes a Fetch, an Advance, a Transact or a WriteBack. A queue head below a translator has start-splits and complete-splits.
 #[tactic(auto, using(crate::proofs::Steps::ends_for_a_reason, crate::proofs::Steps::ends_for_each_reason, crate::proofs::Steps::skips_for_a_reason, crate::proofs::Steps::skips_for_each_reason, crate::proofs::Steps::faults_for_a_reason, crate::proofs::Steps::faults_for_each_reason))]
-pub fn step<W: Wire>(
+pub fn step<W: Wire, M: HcMemory>(
     st: &mut AsyncState,
     regs: &mut Registers,
-    mem: &mut WordMem,
+    mem: &mut M,
     wire: &mut W,
 ) -> WalkStep
-    ensures kind { result ≡ step_of (event_row (place st.old regs.old mem.old)) (at_event (place st.old regs.old mem.old)) }
-    ensures row { Leads W.transacts (event_row (place st.old regs.old mem.old)) (at_event (place st.old regs.old mem.old)) wire.old (place st.new regs.new mem.new) wire.new }
-    ensures only_lent { IsByController mem.old mem.new }
-    ensures ends { (result ≡ WalkStep.Ended) ↔ HasReason (started (place st.old regs.old mem.old)) }
-    ensures skips { (result ≡ WalkStep.Skip) ↔ HasNothing (started (place st.old regs.old mem.old)) }
-    ensures faults { (result ≡ WalkStep.Fault) ↔ IsStuck (started (place st.old regs.old mem.old)) }
-    ensures works { IsWorked (place st.old regs.old mem.old) result }
-    ensures refused { AreRefusalsFaults mem.old mem.new regs.new }
+    ensures kind { result ≡ step_of (event_row (place st.old regs.old (M.mem mem.old))) (at_event (place st.old regs.old (M.mem mem.old))) }
+    ensures row { Leads W.transacts (event_row (place st.old regs.old (M.mem mem.old))) (at_event (place st.old regs.old (M.mem mem.old)))
+        wire.old (place st.new regs.new (M.mem mem.new)) wire.new }
+    ensures only_lent { IsByController (M.mem mem.old) (M.mem mem.new) }
+    ensures ends { (result ≡ WalkStep.Ended) ↔ HasReason (started (place st.old regs.old (M.mem mem.old))) }
+    ensures skips { (result ≡ WalkStep.Skip) ↔ HasNothing (started (place st.old regs.old (M.mem mem.old))) }
+    ensures faults { (result ≡ WalkStep.Fault) ↔ IsStuck (started (place st.old regs.old (M.mem mem.old))) }
+    ensures works { IsWorked (place st.old regs.old (M.mem mem.old)) result }
+    ensures refused { AreRefusalsFaults (M.mem mem.old) (M.mem mem.new) regs.new }
 {
     turn(st, regs, mem, wire)
 }

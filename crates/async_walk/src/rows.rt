@@ -8,11 +8,11 @@ ghost use Rattle.async_walk.specs.Rows.{ring_row, work_row, take_row, visit_row,
 
 use crate::naks::{kind, may};
 use hc_copy::{Transaction, Visit, next_transaction, visit};
+use hc_memory::HcMemory;
 use link_words::{Link, QtdLink};
 use mem_queues::{read_qtd, read_queue_head};
 use qh_qtd::{Qh, Qtd};
 use usb_base::Ps;
-use word_mem::WordMem;
 
 /// The kind of an event, with what it read.
 #[derive(Clone, Copy, Debug, PartialEq, Eq)]
@@ -50,12 +50,12 @@ fn work(queue_head: &Qh, left: Ps) -> WalkRow
 }
 
 /// The row of a queue head that takes a qTD.
-fn take_row_of(link: QtdLink, mem: &mut WordMem) -> WalkRow
+fn take_row_of<M: HcMemory>(link: QtdLink, mem: &mut M) -> WalkRow
     requires { IsQtdAligned link }
     ensures sound { IsSound result }
-    ensures row { result ≡ take_row mem.old link }
-    ensures memory { mem.new ≡ take_read mem.old link }
-    ensures only_lent { IsByController mem.old mem.new }
+    ensures row { result ≡ take_row (M.mem mem.old) link }
+    ensures memory { M.mem mem.new ≡ take_read (M.mem mem.old) link }
+    ensures only_lent { IsByController (M.mem mem.old) (M.mem mem.new) }
 {
     match link {
         // The queue is empty, so its overlay stays as it is (EHCI 1.0, 4.10.2).
@@ -72,12 +72,12 @@ fn take_row_of(link: QtdLink, mem: &mut WordMem) -> WalkRow
 }
 
 /// The row of a copy whose transaction wasn't made yet.
-pub(crate) fn visited(queue_head: &Qh, left: Ps, mem: &mut WordMem) -> WalkRow
+pub(crate) fn visited<M: HcMemory>(queue_head: &Qh, left: Ps, mem: &mut M) -> WalkRow
     requires { IsQhInRange queue_head.now }
     ensures sound { IsSound result }
-    ensures row { result ≡ visit_row mem.old left.0 queue_head.now (visit_of (may_work queue_head.now) queue_head.now) }
-    ensures memory { mem.new ≡ visit_read mem.old (visit_of (may_work queue_head.now) queue_head.now) }
-    ensures only_lent { IsByController mem.old mem.new }
+    ensures row { result ≡ visit_row (M.mem mem.old) left.0 queue_head.now (visit_of (may_work queue_head.now) queue_head.now) }
+    ensures memory { M.mem mem.new ≡ visit_read (M.mem mem.old) (visit_of (may_work queue_head.now) queue_head.now) }
+    ensures only_lent { IsByController (M.mem mem.old) (M.mem mem.new) }
 {
     match visit(queue_head, may(queue_head)) {
         // Halted, or with a NAK count of 0: the next queue head comes (EHCI 1.0, 4.9 and 4.10.3).
@@ -90,12 +90,12 @@ pub(crate) fn visited(queue_head: &Qh, left: Ps, mem: &mut WordMem) -> WalkRow
 }
 
 /// The row of a cursor at this link, where no copy is in hand.
-pub(crate) fn fetched(link: Link, reclamation: bool, mem: &mut WordMem) -> WalkRow
+pub(crate) fn fetched<M: HcMemory>(link: Link, reclamation: bool, mem: &mut M) -> WalkRow
     requires { IsAligned link }
     ensures sound { IsSound result }
-    ensures row { result ≡ ring_row mem.old reclamation link }
-    ensures memory { mem.new ≡ ring_read mem.old link }
-    ensures only_lent { IsByController mem.old mem.new }
+    ensures row { result ≡ ring_row (M.mem mem.old) reclamation link }
+    ensures memory { M.mem mem.new ≡ ring_read (M.mem mem.old) link }
+    ensures only_lent { IsByController (M.mem mem.old) (M.mem mem.new) }
 {
     match link {
         Link::Qh(at) => match read_queue_head(mem, at) {

@@ -1,16 +1,15 @@
 ghost use Rattle.std.specs.Prelude.{◌≡◌, ◌≢◌, ◌≤◌, length, Some};
+ghost use Rattle.lent_words.specs.Lent.{most_lent};
 ghost use Rattle.op_registers.specs.RegisterFile.{reset_file};
 ghost use Rattle.op_registers.specs.Table.{after_write};
 ghost use Rattle.hc_core.specs.Controller.{Control, new_control};
 ghost use Rattle.hc_microframe.specs.State.{shown, file_of};
-ghost use Rattle.hc_microframe.specs.Microframe.{IsFit};
 ghost use Rattle.hc_microframe.specs.Numbers.{control_of};
 ghost use Rattle.hc_microframe.specs.Stepping.{control_after_write};
 ghost use Rattle.hc_microframe.specs.EventCalls.{Steps, HoldsUp};
 
 use crate::tell_asked;
 use hc_microframe::{Answer, AskWords, Desk, Stepped, Whole, kind_number};
-use std::alloc::Global;
 
 /// A controller after a reset, between two events.
 #[unsafe(no_mangle)]
@@ -34,13 +33,11 @@ pub extern "C" fn ehci_whole_write(whole: &mut Whole, offset: u32, word: u32)
 ///
 /// - 0 to 7: an event of this kind was made.
 /// - 8: it asks what has no answer: `ask`, with the first `ask.out_len` bytes of `out`.
-/// - 9: the words aren't 1,024 to 262,144 in steps of 1,024, `out` has room for fewer than 1,024 bytes, or the state is no controller's.
-/// - 10: there was no memory for a copy of the words.
+/// - 9: the words are more than 1,073,741,816, `out` has room for fewer than 1,024 bytes, or the state is no controller's.
 ///
 /// From 8 on the state and the words stay.
 #[unsafe(no_mangle)]
 pub extern "C" fn ehci_step(
-    alloc: Global,
     whole: &mut Whole,
     words: &mut [u32],
     answers: &[Answer],
@@ -50,21 +47,20 @@ pub extern "C" fn ehci_step(
 ) -> u32
     ensures event { result ≤ 7 → Steps whole.old words.old answers.now bytes.now result whole.new words.new }
     ensures wants { result ≡ 8 → HoldsUp whole.old words.old answers.now bytes.now ask.new out.new }
-    ensures unfit { result ≡ 9 → IsFit (length words.old) → 1024 ≤ length out.old → (c : Control) → control_of whole.old ≢ Some c }
-    ensures known { result ≤ 10 }
+    ensures unfit { result ≡ 9 → length words.old ≤ most_lent → 1024 ≤ length out.old → (c : Control) → control_of whole.old ≢ Some c }
+    ensures known { result ≤ 9 }
     ensures stays { 8 ≤ result → (whole.new ≡ whole.old) × (words.new ≡ words.old) }
 {
     if out.len() < 1024 {
         return 9;
     }
     let mut desk = Desk::of(answers, bytes);
-    match hc_microframe::step(alloc, whole, words, &mut desk) {
+    match hc_microframe::step(whole, words, &mut desk) {
         Stepped::Event(kind) => kind_number(kind),
         Stepped::WantsBus => {
             tell_asked(&desk, ask, out);
             8
         }
         Stepped::Unfit => 9,
-        Stepped::NoMemory => 10,
     }
 }

@@ -12,21 +12,22 @@ use crate::buffer::store_bytes;
 use crate::held::Held;
 use crate::overlay::{advanced, moved};
 use crate::planning::pid_of;
+use hc_memory::HcMemory;
 use mem_queues::{write_overlay, write_token};
 use op_registers::{Registers, Status};
 use qh_qtd::{Qh, Qtd};
 use toggle_error::Outcome;
 use transactions::received;
 use usb_base::Reply;
-use word_mem::WordMem;
 
 /// Writes received bytes to the place that the queue head tells. False: one of them has no place, or may not be touched; the bytes before
 /// it are written.
-fn write_bytes(mem: &mut WordMem, queue_head: &Qh, got: &[u8]) -> bool
+fn write_bytes<M: HcMemory>(mem: &mut M, queue_head: &Qh, got: &[u8]) -> bool
     requires range { IsQhInRange queue_head.now }
     requires size { length got.now ≤ 1024 }
-    ensures written { record { memory = mem.new; all = result } ≡ bytes_written (pages_of queue_head.now) (buffer_place queue_head.now) got.now mem.old }
-    ensures only_lent { IsByController mem.old mem.new }
+    ensures written { record { memory = M.mem mem.new; all = result }
+        ≡ bytes_written (pages_of queue_head.now) (buffer_place queue_head.now) got.now (M.mem mem.old) }
+    ensures only_lent { IsByController (M.mem mem.old) (M.mem mem.new) }
 {
     let pages = [
         queue_head.page0,
@@ -40,10 +41,10 @@ fn write_bytes(mem: &mut WordMem, queue_head: &Qh, got: &[u8]) -> bool
 }
 
 /// Writes the token of the current qTD where it isn't active any more. False: it may not be touched.
-fn write_done(mem: &mut WordMem, queue_head: &Qh) -> bool
+fn write_done<M: HcMemory>(mem: &mut M, queue_head: &Qh) -> bool
     requires range { IsQhInRange queue_head.now }
-    ensures written { record { memory = mem.new; all = result } ≡ token_back queue_head.now mem.old }
-    ensures only_lent { IsByController mem.old mem.new }
+    ensures written { record { memory = M.mem mem.new; all = result } ≡ token_back queue_head.now (M.mem mem.old) }
+    ensures only_lent { IsByController (M.mem mem.old) (M.mem mem.new) }
 {
     if queue_head.token.active {
         return true;
@@ -54,26 +55,26 @@ fn write_done(mem: &mut WordMem, queue_head: &Qh) -> bool
 /// Writes words 3 to 11 of the queue head at `at`. False: they may not all be touched; those of a first block that may be are written.
 #[tactic(auto, unfolding(crate::specs::WriteBack::overlay_after))]
 #[inline(always)]
-fn write_queue(mem: &mut WordMem, at: u32, queue_head: &Qh) -> bool
+fn write_queue<M: HcMemory>(mem: &mut M, at: u32, queue_head: &Qh) -> bool
     requires aligned { at % 32 ≡ 0 }
     requires range { IsQhInRange queue_head.now }
-    ensures written { result ≡ reaches_queue_head mem.old at }
-    ensures memory { mem.new ≡ overlay_after mem.old at queue_head.now }
-    ensures only_lent { IsByController mem.old mem.new }
+    ensures written { result ≡ reaches_queue_head (M.mem mem.old) at }
+    ensures memory { M.mem mem.new ≡ overlay_after (M.mem mem.old) at queue_head.now }
+    ensures only_lent { IsByController (M.mem mem.old) (M.mem mem.new) }
 {
     write_overlay(mem, at, queue_head)
 }
 
 /// The copy takes the qTD at `at`, and its words 3 to 11 are written (EHCI 1.0, 4.10.2). False: they may not all be touched.
-pub fn take_qtd(held: &mut Held, at: u32, qtd: &Qtd, mem: &mut WordMem) -> bool
+pub fn take_qtd<M: HcMemory>(held: &mut Held, at: u32, qtd: &Qtd, mem: &mut M) -> bool
     requires held { IsHeld held.old }
     requires aligned { at % 32 ≡ 0 }
     requires range { IsQtdInRange qtd.now }
     ensures copy { held.new ≡ record held.old { queue_head = advanced_queue held.old.queue_head at qtd.now } }
     ensures held { IsHeld held.new }
-    ensures written { result ≡ reaches_queue_head mem.old held.old.at }
-    ensures memory { mem.new ≡ overlay_after mem.old held.old.at (advanced_queue held.old.queue_head at qtd.now) }
-    ensures only_lent { IsByController mem.old mem.new }
+    ensures written { result ≡ reaches_queue_head (M.mem mem.old) held.old.at }
+    ensures memory { M.mem mem.new ≡ overlay_after (M.mem mem.old) held.old.at (advanced_queue held.old.queue_head at qtd.now) }
+    ensures only_lent { IsByController (M.mem mem.old) (M.mem mem.new) }
 {
     held.queue_head = advanced(&held.queue_head, at, qtd);
     write_queue(mem, held.at, &held.queue_head)
@@ -91,12 +92,18 @@ fn count(outcome: Outcome) -> u16
 
 /// Writes the bytes, the overlay and the token.
 #[tactic(auto, unfolding(crate::specs::WriteBack::written_back))]
-fn write_all(mem: &mut WordMem, at: u32, queue_head: &Qh, outcome: Outcome, got: &[u8]) -> bool
+fn write_all<M: HcMemory>(
+    mem: &mut M,
+    at: u32,
+    queue_head: &Qh,
+    outcome: Outcome,
+    got: &[u8],
+) -> bool
     requires aligned { at % 32 ≡ 0 }
     requires range { IsQhInRange queue_head.now }
     requires size { length got.now ≤ 1024 }
-    ensures written { record { memory = mem.new; all = result } ≡ written_back at queue_head.now outcome got.now mem.old }
-    ensures only_lent { IsByController mem.old mem.new }
+    ensures written { record { memory = M.mem mem.new; all = result } ≡ written_back at queue_head.now outcome got.now (M.mem mem.old) }
+    ensures only_lent { IsByController (M.mem mem.old) (M.mem mem.new) }
 {
     let new = moved(queue_head, count(outcome));
     write_bytes(mem, queue_head, got) && write_queue(mem, at, &new) && write_done(mem, &new)
@@ -106,8 +113,8 @@ fn write_all(mem: &mut WordMem, at: u32, queue_head: &Qh, outcome: Outcome, got:
 /// the qTD isn't active any more its token (EHCI 1.0, 4.10.4). False: something may not be touched, or a byte has no place; what comes
 /// before it is written.
 #[inline(never)]
-pub fn write_back(
-    mem: &mut WordMem,
+pub fn write_back<M: HcMemory>(
+    mem: &mut M,
     at: u32,
     queue_head: &Qh,
     outcome: Outcome,
@@ -115,8 +122,9 @@ pub fn write_back(
 ) -> bool
     requires aligned { at % 32 ≡ 0 }
     requires range { IsQhInRange queue_head.now }
-    ensures written { record { memory = mem.new; all = result } ≡ written_back at queue_head.now outcome (received_bytes queue_head.now outcome reply.now) mem.old }
-    ensures only_lent { IsByController mem.old mem.new }
+    ensures written { record { memory = M.mem mem.new; all = result }
+        ≡ written_back at queue_head.now outcome (received_bytes queue_head.now outcome reply.now) (M.mem mem.old) }
+    ensures only_lent { IsByController (M.mem mem.old) (M.mem mem.new) }
 {
     let got = received(pid_of(queue_head.token.pid), outcome, reply);
     write_all(mem, at, queue_head, outcome, got)

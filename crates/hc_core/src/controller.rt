@@ -4,13 +4,13 @@ ghost use Rattle.async_walk.specs.Causes.{AreRefusalsFaults};
 ghost use Rattle.hc_core.specs.Controller.{content, new_control, either_address, address_in_hand, time_left, microframe_row, Begins, ended, entered_control, hc_step, part_after, frame_step, WalksFrame, walk_step, Walks, HasRow, kind_of};
 
 use async_walk::{AsyncState, WalkStep, step as walk_ring};
+use hc_memory::HcMemory;
 use link_words::read;
 use op_registers::Registers;
 use periodic_walk::{PeriodicState, step as walk_frame};
 use std::marker::Model;
 use usb_base::limits::{FRAME_LIST_LENGTH, MICROFRAME_TIME};
 use usb_base::{Ps, Wire};
-use word_mem::WordMem;
 
 /// One event of the controller.
 #[derive(Clone, Copy, Debug, PartialEq, Eq)]
@@ -158,10 +158,11 @@ impl Controller {
     }
 
     /// Begins a microframe: FRINDEX is stepped, the wire asked, and the element of the frame list read.
-    fn begin<W: Wire>(&mut self, regs: &mut Registers, mem: &mut WordMem, wire: &mut W)
-        ensures row { Begins W.begins (content self.old regs.old mem.old) wire.old (content self.new regs.new mem.new) wire.new }
-        ensures only_lent { IsByController mem.old mem.new }
-        ensures refused { AreRefusalsFaults mem.old mem.new regs.new }
+    fn begin<W: Wire, M: HcMemory>(&mut self, regs: &mut Registers, mem: &mut M, wire: &mut W)
+        ensures row { Begins W.begins (content self.old regs.old (M.mem mem.old)) wire.old (content self.new regs.new (M.mem mem.new))
+            wire.new }
+        ensures only_lent { IsByController (M.mem mem.old) (M.mem mem.new) }
+        ensures refused { AreRefusalsFaults (M.mem mem.old) (M.mem mem.new) regs.new }
     {
         let index = regs.begin_microframe();
         let left = if wire.begin(index) {
@@ -196,11 +197,17 @@ impl Controller {
     }
 
     /// One event of the walk of the frame's chain.
-    fn go_frame<W: Wire>(&mut self, regs: &mut Registers, mem: &mut WordMem, wire: &mut W) -> HcStep
-        ensures kind { result ≡ hc_step (frame_step (content self.old regs.old mem.old)) }
-        ensures row { WalksFrame W.transacts (content self.old regs.old mem.old) wire.old (content self.new regs.new mem.new) wire.new }
-        ensures only_lent { IsByController mem.old mem.new }
-        ensures refused { AreRefusalsFaults mem.old mem.new regs.new }
+    fn go_frame<W: Wire, M: HcMemory>(
+        &mut self,
+        regs: &mut Registers,
+        mem: &mut M,
+        wire: &mut W,
+    ) -> HcStep
+        ensures kind { result ≡ hc_step (frame_step (content self.old regs.old (M.mem mem.old))) }
+        ensures row { WalksFrame W.transacts (content self.old regs.old (M.mem mem.old)) wire.old
+            (content self.new regs.new (M.mem mem.new)) wire.new }
+        ensures only_lent { IsByController (M.mem mem.old) (M.mem mem.new) }
+        ensures refused { AreRefusalsFaults (M.mem mem.old) (M.mem mem.new) regs.new }
     {
         let step = walk_frame(&mut self.frame, regs, mem, wire);
         self.part = part_of(MicroframePart::Periodic, step);
@@ -208,11 +215,17 @@ impl Controller {
     }
 
     /// One event of the walk of the ring.
-    fn go<W: Wire>(&mut self, regs: &mut Registers, mem: &mut WordMem, wire: &mut W) -> HcStep
-        ensures kind { result ≡ hc_step (walk_step (content self.old regs.old mem.old)) }
-        ensures row { Walks W.transacts (content self.old regs.old mem.old) wire.old (content self.new regs.new mem.new) wire.new }
-        ensures only_lent { IsByController mem.old mem.new }
-        ensures refused { AreRefusalsFaults mem.old mem.new regs.new }
+    fn go<W: Wire, M: HcMemory>(
+        &mut self,
+        regs: &mut Registers,
+        mem: &mut M,
+        wire: &mut W,
+    ) -> HcStep
+        ensures kind { result ≡ hc_step (walk_step (content self.old regs.old (M.mem mem.old))) }
+        ensures row { Walks W.transacts (content self.old regs.old (M.mem mem.old)) wire.old (content self.new regs.new (M.mem mem.new))
+            wire.new }
+        ensures only_lent { IsByController (M.mem mem.old) (M.mem mem.new) }
+        ensures refused { AreRefusalsFaults (M.mem mem.old) (M.mem mem.new) regs.new }
     {
         let step = walk_ring(&mut self.walk, regs, mem, wire);
         self.part = part_of(MicroframePart::Asynchronous, step);
@@ -227,12 +240,18 @@ impl Controller {
     /// - `End` where the parts of the microframe are over, or where the controller met what it can't go on from: then Host System Error
     ///   stands and Run is 0.
     /// - Else an event of the walk of the frame's chain, and when that has ended one of the walk of the ring.
-    pub fn step<W: Wire>(&mut self, regs: &mut Registers, mem: &mut WordMem, wire: &mut W) -> HcStep
-        ensures kind { result ≡ kind_of (microframe_row regs.old self.old) (content self.old regs.old mem.old) }
-        ensures row { HasRow W.begins W.transacts (microframe_row regs.old self.old) (content self.old regs.old mem.old) wire.old (content self.new regs.new mem.new) wire.new }
+    pub fn step<W: Wire, M: HcMemory>(
+        &mut self,
+        regs: &mut Registers,
+        mem: &mut M,
+        wire: &mut W,
+    ) -> HcStep
+        ensures kind { result ≡ kind_of (microframe_row regs.old self.old) (content self.old regs.old (M.mem mem.old)) }
+        ensures row { HasRow W.begins W.transacts (microframe_row regs.old self.old) (content self.old regs.old (M.mem mem.old)) wire.old
+            (content self.new regs.new (M.mem mem.new)) wire.new }
         ensures idle { (result ≡ HcStep.Idle) ↔ (regs.old.run ≡ false) }
-        ensures only_lent { IsByController mem.old mem.new }
-        ensures refused { AreRefusalsFaults mem.old mem.new regs.new }
+        ensures only_lent { IsByController (M.mem mem.old) (M.mem mem.new) }
+        ensures refused { AreRefusalsFaults (M.mem mem.old) (M.mem mem.new) regs.new }
     {
         match self.row(regs) {
             ControllerRow::Idle => HcStep::Idle,

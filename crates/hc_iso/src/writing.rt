@@ -12,23 +12,23 @@ ghost use Rattle.hc_iso.specs.WriteBack.{iso_raised, itd_pages, slot_place, itd_
 
 use crate::held::{HeldItd, HeldSitd, IsoEnd, IsoTransaction, SplitOutcome};
 use hc_copy::load_bytes;
+use hc_memory::HcMemory;
 use itd_sitd::{Itd, ItdSlot, Sitd};
 use mem_bytes::hc_store;
 use mem_descriptors::{write_slot, write_state};
 use op_registers::{Registers, Status};
 use usb_base::Reply;
-use word_mem::WordMem;
 
 /// Reads the bytes of a buffer in these pages from byte `from` on, into all of `into`. False: one of them lies past the last page, and
 /// nothing was tried; or one may not be touched, and one more refusal is counted.
-fn load(mem: &mut WordMem, pages: &[u32], from: u32, into: &mut [u8]) -> bool
+fn load<M: HcMemory>(mem: &mut M, pages: &[u32], from: u32, into: &mut [u8]) -> bool
     requires pages { ArePages pages.now }
     requires few { length pages.now ≤ 7 }
     requires size { length into.old ≤ 1024 }
-    ensures all { result ≡ (bytes_read pages.now from (length into.old) mem.old).all }
-    ensures memory { mem.new ≡ (bytes_read pages.now from (length into.old) mem.old).memory }
-    ensures bytes { IsTrue result → into.new ≡ (bytes_read pages.now from (length into.old) mem.old).bytes }
-    ensures only_lent { IsByController mem.old mem.new }
+    ensures all { result ≡ (bytes_read pages.now from (length into.old) (M.mem mem.old)).all }
+    ensures memory { M.mem mem.new ≡ (bytes_read pages.now from (length into.old) (M.mem mem.old)).memory }
+    ensures bytes { IsTrue result → into.new ≡ (bytes_read pages.now from (length into.old) (M.mem mem.old)).bytes }
+    ensures only_lent { IsByController (M.mem mem.old) (M.mem mem.new) }
 {
     if from > 4096 * pages.len() as u32 {
         return false;
@@ -38,13 +38,13 @@ fn load(mem: &mut WordMem, pages: &[u32], from: u32, into: &mut [u8]) -> bool
 
 /// Writes received bytes to a buffer in these pages from byte `from` on. False: one of them lies past the last page, or may not be
 /// touched; the bytes before it are written.
-fn store(mem: &mut WordMem, pages: &[u32], from: u32, got: &[u8]) -> bool
+fn store<M: HcMemory>(mem: &mut M, pages: &[u32], from: u32, got: &[u8]) -> bool
     requires pages { ArePages pages.now }
     requires inside { from ≤ size_of pages.now }
     requires few { length pages.now ≤ 7 }
     requires size { length got.now ≤ 3072 }
-    ensures written { record { memory = mem.new; all = result } ≡ bytes_written pages.now from got.now mem.old }
-    ensures only_lent { IsByController mem.old mem.new }
+    ensures written { record { memory = M.mem mem.new; all = result } ≡ bytes_written pages.now from got.now (M.mem mem.old) }
+    ensures only_lent { IsByController (M.mem mem.old) (M.mem mem.new) }
 {
     let size = 4096 * pages.len() as u32;
     let room = (size - from) as usize;
@@ -90,14 +90,19 @@ fn place_of_slot(slot: &ItdSlot) -> u32
 
 /// Reads the bytes that the next transaction of an iTD sends, into all of `into`. False: one of them lies past the last page, and nothing
 /// was tried; or one may not be touched, and one more refusal is counted.
-pub fn load_itd(mem: &mut WordMem, t: &IsoTransaction, held: &HeldItd, into: &mut [u8]) -> bool
+pub fn load_itd<M: HcMemory>(
+    mem: &mut M,
+    t: &IsoTransaction,
+    held: &HeldItd,
+    into: &mut [u8],
+) -> bool
     requires held { IsItdHeld held.now }
     requires room { length into.old ≡ t.now.bytes }
     requires size { t.now.bytes ≤ 1024 }
-    ensures all { result ≡ (itd_sending t.now held.now mem.old).all }
-    ensures memory { mem.new ≡ (itd_sending t.now held.now mem.old).memory }
-    ensures bytes { IsTrue result → into.new ≡ (itd_sending t.now held.now mem.old).bytes }
-    ensures only_lent { IsByController mem.old mem.new }
+    ensures all { result ≡ (itd_sending t.now held.now (M.mem mem.old)).all }
+    ensures memory { M.mem mem.new ≡ (itd_sending t.now held.now (M.mem mem.old)).memory }
+    ensures bytes { IsTrue result → into.new ≡ (itd_sending t.now held.now (M.mem mem.old)).bytes }
+    ensures only_lent { IsByController (M.mem mem.old) (M.mem mem.new) }
 {
     let pages = pages_of_itd(&held.itd);
     load(
@@ -122,20 +127,21 @@ fn done(held: &HeldItd) -> ItdSlot
     }
 }
 
-fn write_done(mem: &mut WordMem, held: &HeldItd) -> bool
+fn write_done<M: HcMemory>(mem: &mut M, held: &HeldItd) -> bool
     requires { IsItdHeld held.now }
-    ensures written { record { memory = mem.new; all = result } ≡ slot_back held.now mem.old }
-    ensures only_lent { IsByController mem.old mem.new }
+    ensures written { record { memory = M.mem mem.new; all = result } ≡ slot_back held.now (M.mem mem.old) }
+    ensures only_lent { IsByController (M.mem mem.old) (M.mem mem.new) }
 {
     let slot = done(held);
     write_slot(mem, held.at, held.number, &slot)
 }
 
-fn write_got(mem: &mut WordMem, held: &HeldItd, got: &[u8]) -> bool
+fn write_got<M: HcMemory>(mem: &mut M, held: &HeldItd, got: &[u8]) -> bool
     requires held { IsItdHeld held.now }
     requires size { length got.now ≤ 3072 }
-    ensures written { record { memory = mem.new; all = result } ≡ bytes_written (itd_pages held.now.itd) (slot_place held.now.slot) got.now mem.old }
-    ensures only_lent { IsByController mem.old mem.new }
+    ensures written { record { memory = M.mem mem.new; all = result }
+        ≡ bytes_written (itd_pages held.now.itd) (slot_place held.now.slot) got.now (M.mem mem.old) }
+    ensures only_lent { IsByController (M.mem mem.old) (M.mem mem.new) }
 {
     let pages = pages_of_itd(&held.itd);
     store(mem, &pages, place_of_slot(&held.slot), got)
@@ -145,11 +151,11 @@ fn write_got(mem: &mut WordMem, held: &HeldItd, got: &[u8]) -> bool
 /// something may not be touched, or a byte has no place; what comes before it is written.
 #[inline(never)]
 #[tactic(auto, unfolding(crate::specs::WriteBack::itd_written))]
-pub fn write_itd(mem: &mut WordMem, held: &HeldItd, got: &[u8]) -> bool
+pub fn write_itd<M: HcMemory>(mem: &mut M, held: &HeldItd, got: &[u8]) -> bool
     requires held { IsItdHeld held.now }
     requires size { length got.now ≤ 3072 }
-    ensures written { record { memory = mem.new; all = result } ≡ itd_written held.now got.now mem.old }
-    ensures only_lent { IsByController mem.old mem.new }
+    ensures written { record { memory = M.mem mem.new; all = result } ≡ itd_written held.now got.now (M.mem mem.old) }
+    ensures only_lent { IsByController (M.mem mem.old) (M.mem mem.new) }
 {
     write_got(mem, held, got) && write_done(mem, held)
 }
@@ -181,14 +187,14 @@ fn place_of_sitd(sitd: &Sitd) -> u32
 /// Reads the bytes that the next transaction of a siTD sends, into all of `into`. False: one of them lies past the last page, and nothing
 /// was tried; or one may not be touched, and one more refusal is counted.
 #[tactic(auto, using(crate::proofs::Pages::sitd_are_pages))]
-pub fn load_sitd(mem: &mut WordMem, t: &IsoTransaction, sitd: &Sitd, into: &mut [u8]) -> bool
+pub fn load_sitd<M: HcMemory>(mem: &mut M, t: &IsoTransaction, sitd: &Sitd, into: &mut [u8]) -> bool
     requires range { IsSitdInRange sitd.now }
     requires room { length into.old ≡ t.now.bytes }
     requires size { t.now.bytes ≤ 1024 }
-    ensures all { result ≡ (sitd_sending t.now sitd.now mem.old).all }
-    ensures memory { mem.new ≡ (sitd_sending t.now sitd.now mem.old).memory }
-    ensures bytes { IsTrue result → into.new ≡ (sitd_sending t.now sitd.now mem.old).bytes }
-    ensures only_lent { IsByController mem.old mem.new }
+    ensures all { result ≡ (sitd_sending t.now sitd.now (M.mem mem.old)).all }
+    ensures memory { M.mem mem.new ≡ (sitd_sending t.now sitd.now (M.mem mem.old)).memory }
+    ensures bytes { IsTrue result → into.new ≡ (sitd_sending t.now sitd.now (M.mem mem.old)).bytes }
+    ensures only_lent { IsByController (M.mem mem.old) (M.mem mem.new) }
 {
     let pages = [sitd.page0, sitd.page1];
     load(mem, &pages, place_of_sitd(sitd), into)
@@ -241,22 +247,24 @@ fn received(dir_in: bool, outcome: SplitOutcome, reply: &Reply) -> &[u8]
 }
 
 #[tactic(auto, using(crate::proofs::Pages::sitd_are_pages))]
-fn write_bytes(mem: &mut WordMem, sitd: &Sitd, got: &[u8]) -> bool
+fn write_bytes<M: HcMemory>(mem: &mut M, sitd: &Sitd, got: &[u8]) -> bool
     requires range { IsSitdInRange sitd.now }
     requires size { length got.now ≤ 1024 }
-    ensures written { record { memory = mem.new; all = result } ≡ bytes_written (sitd_pages sitd.now) (sitd_place sitd.now) got.now mem.old }
-    ensures only_lent { IsByController mem.old mem.new }
+    ensures written { record { memory = M.mem mem.new; all = result }
+        ≡ bytes_written (sitd_pages sitd.now) (sitd_place sitd.now) got.now (M.mem mem.old) }
+    ensures only_lent { IsByController (M.mem mem.old) (M.mem mem.new) }
 {
     let pages = [sitd.page0, sitd.page1];
     store(mem, &pages, place_of_sitd(sitd), got)
 }
 
 #[tactic(auto, unfolding(crate::specs::WriteBack::sitd_written))]
-fn write_all(mem: &mut WordMem, held: &HeldSitd, outcome: SplitOutcome, got: &[u8]) -> bool
+fn write_all<M: HcMemory>(mem: &mut M, held: &HeldSitd, outcome: SplitOutcome, got: &[u8]) -> bool
     requires held { IsSitdHeld held.now }
     requires size { length got.now ≤ 1024 }
-    ensures written { record { memory = mem.new; all = result } ≡ sitd_written held.now.at held.now.sitd outcome got.now mem.old }
-    ensures only_lent { IsByController mem.old mem.new }
+    ensures written { record { memory = M.mem mem.new; all = result }
+        ≡ sitd_written held.now.at held.now.sitd outcome got.now (M.mem mem.old) }
+    ensures only_lent { IsByController (M.mem mem.old) (M.mem mem.new) }
 {
     let new = moved(&held.sitd, count(outcome));
     write_bytes(mem, &held.sitd, got) && write_state(mem, held.at, &new)
@@ -265,10 +273,16 @@ fn write_all(mem: &mut WordMem, held: &HeldSitd, outcome: SplitOutcome, got: &[u
 /// Writes back what the transaction of a siTD came to, which `reply` answered: the bytes received, and words 3 to 5 (EHCI 1.0, 4.12.3.3).
 /// False: something may not be touched, or a byte has no place; what comes before it is written.
 #[inline(never)]
-pub fn write_sitd(mem: &mut WordMem, held: &HeldSitd, outcome: SplitOutcome, reply: &Reply) -> bool
+pub fn write_sitd<M: HcMemory>(
+    mem: &mut M,
+    held: &HeldSitd,
+    outcome: SplitOutcome,
+    reply: &Reply,
+) -> bool
     requires { IsSitdHeld held.now }
-    ensures written { record { memory = mem.new; all = result } ≡ sitd_written held.now.at held.now.sitd outcome (sitd_received held.now.sitd.dir_in outcome reply.now) mem.old }
-    ensures only_lent { IsByController mem.old mem.new }
+    ensures written { record { memory = M.mem mem.new; all = result }
+        ≡ sitd_written held.now.at held.now.sitd outcome (sitd_received held.now.sitd.dir_in outcome reply.now) (M.mem mem.old) }
+    ensures only_lent { IsByController (M.mem mem.old) (M.mem mem.new) }
 {
     let got = received(held.sitd.dir_in, outcome, reply);
     write_all(mem, held, outcome, got)

@@ -5,6 +5,7 @@ mod Ringing
 mod Placing
 pub mod Wholes
 mod Once
+mod HeldUp
 mod OneEvent
 mod RingShapes
 mod FrameShapes

@@ -2,11 +2,14 @@
 --     opening c s words                c over the registers and the words that were given
 --     IsStepped s words desk kind ..   that is one row of the controller's table, and these are the state and the words after it
 --     IsHeldUp s words desk t          the row asks what has no answer
+--     LeavesWords start desk ..        one row leads to this controller over these registers and words
 --     control_after_write at word c    the controller after a driver's write
 --     AsksOnce                         with an answer at hand no row is held up
 --     RegistersAreKept                 the next call has the registers that this one left
 use Rattle.std.specs.Prelude.{◌≡◌, ℕ, ◌/◌, ◌%◌, ◌^◌, ◌<◌, ◌==◌, ◌&&◌, true, is_some, if◌then◌else◌, List, ◌∷◌, None, Some}
 use Rattle.word_mem.specs.Memory.{all_lent}
+use Rattle.lent_words.specs.Lent.{lent_mem}
+use Rattle.op_registers.specs.RegisterFile.{RegisterFile}
 use Rattle.async_walk.specs.Walk.{new_walk}
 use Rattle.hc_core.specs.declared.controller.HcStep.{HcStep}
 use Rattle.hc_core.specs.Controller.{Control, Content, content, new_control, microframe_row, kind_of}
@@ -38,6 +41,12 @@ pub record IsHeldUp (s : Whole) (words : List ℕ) (desk : Told) (after : Told) 
   pub from : control_of s ≡ Some control
   pub event : IsEvent (opening control s.registers words) desk end after
   pub wanted : is_some after.wanted ≡ true
+
+-- some accesses may have been refused
+pub record LeavesWords (start : Content) (desk : Told) (control : Control) (registers : RegisterFile) (words : List ℕ)
+    (after : Told) : Type 0 where
+  pub refused : ℕ
+  pub event : IsEvent start desk (content control registers (lent_mem words refused)) after
 
 -- a reset has the controller begin anew (2.3.1), a new ASYNCLISTADDR the walk of the ring (2.3.7)
 abbrev pub control_after_write : ℕ → ℕ → Control → Control

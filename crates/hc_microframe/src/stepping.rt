@@ -1,21 +1,22 @@
 ghost use Rattle.std.specs.Prelude.{◌≡◌, ◌≢◌, ◌≤◌, length, None, Some};
+ghost use Rattle.word_mem.specs.Memory.{all_lent};
+ghost use Rattle.lent_words.specs.Lent.{most_lent};
 ghost use Rattle.async_walk.specs.Walk.{new_walk};
-ghost use Rattle.hc_core.specs.Controller.{Control};
+ghost use Rattle.hc_core.specs.Controller.{Control, content, microframe_row, kind_of};
 ghost use Rattle.op_registers.specs.Table.{after_write};
-ghost use Rattle.hc_microframe.specs.Microframe.{IsFit};
 ghost use Rattle.hc_microframe.specs.Numbers.{control_of};
 ghost use Rattle.hc_microframe.specs.State.{shown, file_of};
-ghost use Rattle.hc_microframe.specs.Stepping.{IsStepped, IsHeldUp, control_after_write};
+ghost use Rattle.hc_microframe.specs.Stepping.{IsStepped, IsHeldUp, LeavesWords, control_after_write};
 ghost use Rattle.hc_microframe.specs.EventCalls.{kind_number};
 
 use crate::desk::Desk;
-use crate::making::copy_back;
-use crate::running::is_fit;
 use crate::state::{registers_of, state_of};
 use crate::whole::{RingWords, Whole};
-use hc_core::HcStep;
-use std::alloc::Global;
-use word_mem::WordMem;
+use hc_core::{Controller, HcStep};
+use lent_words::{Lender, Loan, Ram};
+use op_registers::Registers;
+use std::marker::Brand;
+use std::mem;
 
 /// What came of a call for one event.
 #[derive(Clone, Copy, Debug, PartialEq, Eq)]
@@ -24,38 +25,76 @@ pub enum Stepped {
     Event(HcStep),
     /// Nothing changed: the event asks what has no answer, and the desk tells what.
     WantsBus,
-    /// Nothing changed: the words are no memory of a controller, or the numbers are no controller's.
+    /// Nothing changed: the words are more than 1,073,741,816, or the numbers are no controller's.
     Unfit,
-    /// Nothing changed: there was no memory for a copy of the words.
-    NoMemory,
 }
 
-/// Makes one event, over these words, all of which the controller may reach, and the bus of this desk.
-pub fn step(alloc: Global, whole: &mut Whole, words: &mut [u32], desk: &mut Desk<'_, '_>) -> Stepped
+/// Makes one event, of this kind, over the words of a loan, which is given back.
+fn step_by<'a, L: Lender>(
+    loan: Loan<'a>,
+    controller: &mut Controller,
+    regs: &mut Registers,
+    desk: &mut Desk<'_, '_>,
+    kind: &mut HcStep,
+) -> Loan<'a>
+    requires name { loan.words.ghost_name ≡ L.name }
+    requires few { length loan.words.now ≤ most_lent }
+    ensures same_reference { result.words.ghost_name ≡ loan.entry.words.ghost_name }
+    ensures kind { let start = content controller.old regs.old (all_lent loan.entry.words.now) in
+        kind.new ≡ kind_of (microframe_row regs.old controller.old) start }
+    ensures row { let start = content controller.old regs.old (all_lent loan.entry.words.now) in
+        LeavesWords start desk.old controller.new regs.new result.words.now desk.new }
+    ensures length { length result.words.now ≡ length loan.entry.words.now }
+{
+    let mut ram: Ram<'a, L> = Ram::of(loan);
+    *kind = controller.step(regs, &mut ram, desk);
+    ram.into_loan()
+}
+
+/// Makes one event over lent words.
+fn step_in<'a>(
+    loan: &mut Loan<'a>,
+    controller: &mut Controller,
+    regs: &mut Registers,
+    desk: &mut Desk<'_, '_>,
+) -> HcStep
+    requires { length loan.old.words.now ≤ most_lent }
+    ensures same_reference { loan.new.words.ghost_name ≡ loan.old.words.ghost_name }
+    ensures kind { let start = content controller.old regs.old (all_lent loan.old.words.now) in
+        result ≡ kind_of (microframe_row regs.old controller.old) start }
+    ensures row { let start = content controller.old regs.old (all_lent loan.old.words.now) in
+        LeavesWords start desk.old controller.new regs.new loan.new.words.now desk.new }
+    ensures length { length loan.new.words.now ≡ length loan.old.words.now }
+{
+    let taken = mem::replace(loan, Loan { words: &mut [] });
+    let mut kind = HcStep::Idle;
+    *loan = step_by::<Brand>(taken, controller, regs, desk, &mut kind);
+    kind
+}
+
+/// Makes one event, over these words, all of whose whole blocks the controller may reach, and the bus of this desk.
+pub fn step(whole: &mut Whole, words: &mut [u32], desk: &mut Desk<'_, '_>) -> Stepped
     requires { desk.old.wanted ≡ None }
     ensures event { (kind : HcStep) → result ≡ Stepped.Event kind
         → IsStepped whole.old words.old desk.old kind whole.new words.new desk.new }
     ensures wants { result ≡ Stepped.WantsBus → IsHeldUp whole.old words.old desk.old desk.new }
-    ensures unfit { result ≡ Stepped.Unfit → IsFit (length words.old) → (c : Control) → control_of whole.old ≢ Some c }
+    ensures unfit { result ≡ Stepped.Unfit → length words.old ≤ most_lent → (c : Control) → control_of whole.old ≢ Some c }
     ensures stays { ((kind : HcStep) → result ≢ Stepped.Event kind) → (whole.new ≡ whole.old) × (words.new ≡ words.old) }
     ensures length { length words.new ≡ length words.old }
 {
-    if !is_fit(words.len()) {
+    if words.len() > 1_073_741_816 {
         return Stepped::Unfit;
     }
     let Some(mut controller) = whole.controller() else {
         return Stepped::Unfit;
     };
-    let Ok(mut mem) = WordMem::from_words(alloc, words) else {
-        return Stepped::NoMemory;
-    };
     let mut regs = registers_of(&whole.registers);
-    let kind = controller.step(&mut regs, &mut mem, desk);
+    let mut loan = Loan::of(words);
+    let kind = step_in(&mut loan, &mut controller, &mut regs, desk);
     if desk.is_asked() {
         return Stepped::WantsBus;
     }
     *whole = Whole::of(&controller, &regs);
-    copy_back(&mem, words);
     Stepped::Event(kind)
 }
 

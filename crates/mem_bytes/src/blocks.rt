@@ -3,7 +3,7 @@ ghost use Rattle.word_mem.specs.Memory.{reaches, refused};
 ghost use Rattle.word_mem.specs.Access.{IsByController};
 ghost use Rattle.mem_bytes.specs.Bytes.{ArePages, place, with_bytes, word_of, words_from, bytes_of, bytes_at, AreReached};
 
-use word_mem::WordMem;
+use hc_memory::HcMemory;
 
 /// The word of the four bytes from place `i` on.
 fn word(bytes: &[u8], i: usize) -> u32
@@ -34,8 +34,8 @@ fn eight_words(bytes: &[u8]) -> [u32; 8]
 /// Stores the first 32 bytes, whose places are a whole block, at `at`. None: the controller may not touch it, and one more refusal is
 /// counted.
 #[inline(always)]
-pub(crate) fn hc_put_block(
-    mem: &mut WordMem,
+pub(crate) fn hc_put_block<M: HcMemory>(
+    mem: &mut M,
     pages: &[u32],
     k: u32,
     at: u32,
@@ -44,9 +44,11 @@ pub(crate) fn hc_put_block(
     requires here { at ≡ place pages.now k }
     requires whole { at % 32 ≡ 0 }
     requires long { 32 ≤ length bytes.now }
-    ensures moved { MatchOption result (reaches mem.old (place pages.now k) ≡ false) (λ n. (1 ≤ n) × (n ≤ length bytes.now) × AreReached mem.old pages.now k n) }
-    ensures memory { MatchOption result (mem.new ≡ refused mem.old) (λ n. mem.new ≡ with_bytes mem.old pages.now k (take n bytes.now)) }
-    ensures only_lent { IsByController mem.old mem.new }
+    ensures moved { MatchOption result (reaches (M.mem mem.old) (place pages.now k) ≡ false)
+        (λ n. (1 ≤ n) × (n ≤ length bytes.now) × AreReached (M.mem mem.old) pages.now k n) }
+    ensures memory { MatchOption result ((M.mem mem.new) ≡ refused (M.mem mem.old))
+        (λ n. (M.mem mem.new) ≡ with_bytes (M.mem mem.old) pages.now k (take n bytes.now)) }
+    ensures only_lent { IsByController (M.mem mem.old) (M.mem mem.new) }
 {
     let words = eight_words(bytes);
     if mem.hc_write_words(at, &words) {
@@ -71,8 +73,8 @@ fn put_four(word: u32, into: &mut [u8])
 /// Loads 32 bytes, whose places are a whole block, at `at`, into the first 32 places. None: the controller may not touch it, and one more
 /// refusal is counted.
 #[inline(always)]
-pub(crate) fn hc_get_block(
-    mem: &mut WordMem,
+pub(crate) fn hc_get_block<M: HcMemory>(
+    mem: &mut M,
     pages: &[u32],
     k: u32,
     at: u32,
@@ -81,10 +83,11 @@ pub(crate) fn hc_get_block(
     requires here { at ≡ place pages.now k }
     requires whole { at % 32 ≡ 0 }
     requires long { 32 ≤ length into.old }
-    ensures moved { MatchOption result (reaches mem.old (place pages.now k) ≡ false) (λ n. (1 ≤ n) × (n ≤ length into.old) × AreReached mem.old pages.now k n) }
-    ensures memory { MatchOption result (mem.new ≡ refused mem.old) (λ n. mem.new ≡ mem.old) }
-    ensures only_lent { IsByController mem.old mem.new }
-    ensures bytes { MatchOption result (into.new ≡ into.old) (λ n. into.new ≡ bytes_at mem.old pages.now k n ++ drop n into.old) }
+    ensures moved { MatchOption result (reaches (M.mem mem.old) (place pages.now k) ≡ false)
+        (λ n. (1 ≤ n) × (n ≤ length into.old) × AreReached (M.mem mem.old) pages.now k n) }
+    ensures memory { MatchOption result ((M.mem mem.new) ≡ refused (M.mem mem.old)) (λ n. (M.mem mem.new) ≡ M.mem mem.old) }
+    ensures only_lent { IsByController (M.mem mem.old) (M.mem mem.new) }
+    ensures bytes { MatchOption result (into.new ≡ into.old) (λ n. into.new ≡ bytes_at (M.mem mem.old) pages.now k n ++ drop n into.old) }
 {
     let mut words = [0; 8];
     if !mem.hc_read_words(at, &mut words) {

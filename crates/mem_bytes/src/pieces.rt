@@ -4,6 +4,7 @@ ghost use Rattle.word_mem.specs.Access.{IsByController};
 ghost use Rattle.mem_bytes.specs.Bytes.{ArePages, place, with_byte, with_bytes, word_of, bytes_of, bytes_at, AreReached};
 
 use crate::blocks::{hc_get_block, hc_put_block};
+use hc_memory::HcMemory;
 use word_mem::WordMem;
 
 /// The bytes of a page (EHCI 1.0, 3.5.4).
@@ -19,19 +20,19 @@ pub(crate) fn address(pages: &[u32], k: u32) -> u32
 }
 
 /// The word that the byte address `at` lies in. None: the controller may not touch it, and one more refusal is counted.
-pub(crate) fn hc_word(mem: &mut WordMem, at: u32) -> Option<u32>
-    ensures word { result ≡ (if reaches mem.old at then Some (word_at mem.old at) else None) }
-    ensures memory { mem.new ≡ (if reaches mem.old at then mem.old else refused mem.old) }
-    ensures only_lent { IsByController mem.old mem.new }
+pub(crate) fn hc_word<M: HcMemory>(mem: &mut M, at: u32) -> Option<u32>
+    ensures word { result ≡ (if reaches (M.mem mem.old) at then Some (word_at (M.mem mem.old) at) else None) }
+    ensures memory { M.mem mem.new ≡ (if reaches (M.mem mem.old) at then M.mem mem.old else refused (M.mem mem.old)) }
+    ensures only_lent { IsByController (M.mem mem.old) (M.mem mem.new) }
 {
     mem.hc_read(at - at % 4)
 }
 
 /// Writes the word that the byte address `at` lies in. False: the controller may not touch it, and one more refusal is counted.
-pub(crate) fn hc_put_word(mem: &mut WordMem, at: u32, word: u32) -> bool
-    ensures written { result ≡ reaches mem.old at }
-    ensures memory { mem.new ≡ (if reaches mem.old at then with_word mem.old at word else refused mem.old) }
-    ensures only_lent { IsByController mem.old mem.new }
+pub(crate) fn hc_put_word<M: HcMemory>(mem: &mut M, at: u32, word: u32) -> bool
+    ensures written { result ≡ reaches (M.mem mem.old) at }
+    ensures memory { M.mem mem.new ≡ (if reaches (M.mem mem.old) at then with_word (M.mem mem.old) at word else refused (M.mem mem.old)) }
+    ensures only_lent { IsByController (M.mem mem.old) (M.mem mem.new) }
 {
     mem.hc_write(at - at % 4, word)
 }
@@ -48,10 +49,10 @@ fn with_part(word: u32, place: u32, byte: u8) -> u32
 
 /// Puts one byte at the byte address `at`. False: the controller may not touch its word, and one more refusal is counted.
 #[tactic(auto, unfolding(crate::specs::Bytes::put_byte))]
-pub(crate) fn hc_put_byte(mem: &mut WordMem, at: u32, byte: u8) -> bool
-    ensures put { result ≡ reaches mem.old at }
-    ensures memory { mem.new ≡ (if reaches mem.old at then with_byte mem.old at byte else refused mem.old) }
-    ensures only_lent { IsByController mem.old mem.new }
+pub(crate) fn hc_put_byte<M: HcMemory>(mem: &mut M, at: u32, byte: u8) -> bool
+    ensures put { result ≡ reaches (M.mem mem.old) at }
+    ensures memory { M.mem mem.new ≡ (if reaches (M.mem mem.old) at then with_byte (M.mem mem.old) at byte else refused (M.mem mem.old)) }
+    ensures only_lent { IsByController (M.mem mem.old) (M.mem mem.new) }
 {
     match hc_word(mem, at) {
         None => false,
@@ -61,13 +62,15 @@ pub(crate) fn hc_put_byte(mem: &mut WordMem, at: u32, byte: u8) -> bool
 
 /// Stores the first 32 of these bytes where they make a block, the first four where they make a word, and else the first. None: the controller may not touch its place, and
 /// one more refusal is counted.
-pub(crate) fn hc_put(mem: &mut WordMem, pages: &[u32], k: u32, bytes: &[u8]) -> Option<usize>
+pub(crate) fn hc_put<M: HcMemory>(mem: &mut M, pages: &[u32], k: u32, bytes: &[u8]) -> Option<usize>
     requires pages { ArePages pages.now }
     requires inside { k + length bytes.now ≤ 4096 * length pages.now }
     requires some { 1 ≤ length bytes.now }
-    ensures moved { MatchOption result (reaches mem.old (place pages.now k) ≡ false) (λ n. (1 ≤ n) × (n ≤ length bytes.now) × AreReached mem.old pages.now k n) }
-    ensures memory { MatchOption result (mem.new ≡ refused mem.old) (λ n. mem.new ≡ with_bytes mem.old pages.now k (take n bytes.now)) }
-    ensures only_lent { IsByController mem.old mem.new }
+    ensures moved { MatchOption result (reaches (M.mem mem.old) (place pages.now k) ≡ false)
+        (λ n. (1 ≤ n) × (n ≤ length bytes.now) × AreReached (M.mem mem.old) pages.now k n) }
+    ensures memory { MatchOption result ((M.mem mem.new) ≡ refused (M.mem mem.old))
+        (λ n. (M.mem mem.new) ≡ with_bytes (M.mem mem.old) pages.now k (take n bytes.now)) }
+    ensures only_lent { IsByController (M.mem mem.old) (M.mem mem.new) }
 {
     let at = address(pages, k);
     if at % 32 == 0 && bytes.len() >= 32 {
@@ -110,14 +113,20 @@ fn spread(word: u32, at: u32, into: &mut [u8]) -> usize
 
 /// Loads the first 32 bytes where they make a block, the first four where they make a word, and else the first. None: the controller may not touch its place, and one more
 /// refusal is counted.
-pub(crate) fn hc_get(mem: &mut WordMem, pages: &[u32], k: u32, into: &mut [u8]) -> Option<usize>
+pub(crate) fn hc_get<M: HcMemory>(
+    mem: &mut M,
+    pages: &[u32],
+    k: u32,
+    into: &mut [u8],
+) -> Option<usize>
     requires pages { ArePages pages.now }
     requires inside { k + length into.old ≤ 4096 * length pages.now }
     requires some { 1 ≤ length into.old }
-    ensures moved { MatchOption result (reaches mem.old (place pages.now k) ≡ false) (λ n. (1 ≤ n) × (n ≤ length into.old) × AreReached mem.old pages.now k n) }
-    ensures memory { MatchOption result (mem.new ≡ refused mem.old) (λ n. mem.new ≡ mem.old) }
-    ensures only_lent { IsByController mem.old mem.new }
-    ensures bytes { MatchOption result (into.new ≡ into.old) (λ n. into.new ≡ bytes_at mem.old pages.now k n ++ drop n into.old) }
+    ensures moved { MatchOption result (reaches (M.mem mem.old) (place pages.now k) ≡ false)
+        (λ n. (1 ≤ n) × (n ≤ length into.old) × AreReached (M.mem mem.old) pages.now k n) }
+    ensures memory { MatchOption result ((M.mem mem.new) ≡ refused (M.mem mem.old)) (λ n. (M.mem mem.new) ≡ M.mem mem.old) }
+    ensures only_lent { IsByController (M.mem mem.old) (M.mem mem.new) }
+    ensures bytes { MatchOption result (into.new ≡ into.old) (λ n. into.new ≡ bytes_at (M.mem mem.old) pages.now k n ++ drop n into.old) }
 {
     let at = address(pages, k);
     if at % 32 == 0 && into.len() >= 32 {

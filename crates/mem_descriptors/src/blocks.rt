@@ -4,29 +4,29 @@ ghost use Rattle.word_mem.specs.Access.{IsByController};
 ghost use Rattle.word_mem.specs.Views.{words_at, with_words};
 ghost use Rattle.mem_descriptors.specs.Descriptors.{reaches_itd, itd_was_read, slot_address};
 
-use word_mem::WordMem;
+use hc_memory::HcMemory;
 
-/// The bytes of the largest memory.
-const LARGEST: u32 = 0x10_0000;
+/// The last 32 bytes that an address can name begin here; no word is Lent from here on.
+const LARGEST: u32 = 0xffff_ffe0;
 
 /// The block after the Lent block at `at`.
-fn block_after(mem: &WordMem, at: u32) -> u32
+#[tactic(auto, using(hc_memory::proofs::Ends::below_end))]
+fn block_after<M: HcMemory>(mem: &M, at: u32) -> u32
     requires aligned { at % 32 ≡ 0 }
-    requires lent { reaches mem.now at ≡ true }
+    requires lent { reaches (M.mem mem.now) at ≡ true }
     ensures after { result ≡ at + 32 }
     ensures aligned { result % 32 ≡ 0 }
 {
-    // Memory has at most 262,144 words.
-    let _words = mem.words();
+    mem.ends();
     at + 32
 }
 
 /// The controller reads the eight words of the block at `at`. None: the block isn't Lent, and one more refusal is counted.
-fn read_eight(mem: &mut WordMem, at: u32) -> Option<[u32; 8]>
+fn read_eight<M: HcMemory>(mem: &mut M, at: u32) -> Option<[u32; 8]>
     requires { at % 32 ≡ 0 }
-    ensures words { result ≡ (if reaches mem.old at then Some (words_at mem.old at 8) else None) }
-    ensures memory { mem.new ≡ (if reaches mem.old at then mem.old else refused mem.old) }
-    ensures only_lent { IsByController mem.old mem.new }
+    ensures words { result ≡ (if reaches (M.mem mem.old) at then Some (words_at (M.mem mem.old) at 8) else None) }
+    ensures memory { M.mem mem.new ≡ (if reaches (M.mem mem.old) at then M.mem mem.old else refused (M.mem mem.old)) }
+    ensures only_lent { IsByController (M.mem mem.old) (M.mem mem.new) }
 {
     let mut words = [0; 8];
     if mem.hc_read_words(at, &mut words) {
@@ -36,11 +36,11 @@ fn read_eight(mem: &mut WordMem, at: u32) -> Option<[u32; 8]>
 }
 
 /// The controller reads the first seven words of the block at `at`. None: the block isn't Lent, and one more refusal is counted.
-pub(crate) fn read_seven(mem: &mut WordMem, at: u32) -> Option<[u32; 7]>
+pub(crate) fn read_seven<M: HcMemory>(mem: &mut M, at: u32) -> Option<[u32; 7]>
     requires { at % 32 ≡ 0 }
-    ensures words { result ≡ (if reaches mem.old at then Some (words_at mem.old at 7) else None) }
-    ensures memory { mem.new ≡ (if reaches mem.old at then mem.old else refused mem.old) }
-    ensures only_lent { IsByController mem.old mem.new }
+    ensures words { result ≡ (if reaches (M.mem mem.old) at then Some (words_at (M.mem mem.old) at 7) else None) }
+    ensures memory { M.mem mem.new ≡ (if reaches (M.mem mem.old) at then M.mem mem.old else refused (M.mem mem.old)) }
+    ensures only_lent { IsByController (M.mem mem.old) (M.mem mem.new) }
 {
     let mut words = [0; 7];
     if mem.hc_read_words(at, &mut words) {
@@ -52,11 +52,11 @@ pub(crate) fn read_seven(mem: &mut WordMem, at: u32) -> Option<[u32; 7]>
 /// The controller reads the sixteen words from the block at `at` on, which lie in two blocks. None: one of these isn't Lent, and one more
 /// refusal is counted.
 #[tactic(auto, using(crate::proofs::TwoBlocks::sixteen_words))]
-pub(crate) fn read_sixteen(mem: &mut WordMem, at: u32) -> Option<[u32; 16]>
+pub(crate) fn read_sixteen<M: HcMemory>(mem: &mut M, at: u32) -> Option<[u32; 16]>
     requires { at % 32 ≡ 0 }
-    ensures words { result ≡ (if reaches_itd mem.old at then Some (words_at mem.old at 16) else None) }
-    ensures memory { mem.new ≡ itd_was_read mem.old at }
-    ensures only_lent { IsByController mem.old mem.new }
+    ensures words { result ≡ (if reaches_itd (M.mem mem.old) at then Some (words_at (M.mem mem.old) at 16) else None) }
+    ensures memory { M.mem mem.new ≡ itd_was_read (M.mem mem.old) at }
+    ensures only_lent { IsByController (M.mem mem.old) (M.mem mem.new) }
 {
     let [w0, w1, w2, w3, w4, w5, w6, w7] = read_eight(mem, at)?;
     let second = block_after(mem, at);
@@ -66,18 +66,17 @@ pub(crate) fn read_sixteen(mem: &mut WordMem, at: u32) -> Option<[u32; 16]>
     ])
 }
 
-/// The address of the word of microframe `number` in the iTD at `at`. Where `at` lies past the largest memory that word does too, and
+/// The address of the word of microframe `number` in the iTD at `at`. Where `at` is past what can be Lent that word is too, and
 /// `at` stands for it.
 #[tactic(auto, using(crate::proofs::TwoBlocks::past_memory))]
-pub(crate) fn slot_place(mem: &WordMem, at: u32, number: u8) -> u32
+pub(crate) fn slot_place<M: HcMemory>(mem: &M, at: u32, number: u8) -> u32
     requires aligned { at % 32 ≡ 0 }
     requires number { number < 8 }
     ensures aligned { result % 4 ≡ 0 }
-    ensures reached { reaches mem.now result ≡ reaches mem.now (slot_address at number) }
-    ensures place { reaches mem.now result ≡ true → result ≡ slot_address at number }
+    ensures reached { reaches (M.mem mem.now) result ≡ reaches (M.mem mem.now) (slot_address at number) }
+    ensures place { reaches (M.mem mem.now) result ≡ true → result ≡ slot_address at number }
 {
-    // Memory has at most 262,144 words.
-    let _words = mem.words();
+    mem.ends();
     if at < LARGEST {
         return at + 4 + 4 * number as u32;
     }
@@ -86,12 +85,13 @@ pub(crate) fn slot_place(mem: &WordMem, at: u32, number: u8) -> u32
 
 /// The controller writes words 3 to 5 of the block at `at`. False: the block isn't Lent, and one more refusal is counted.
 #[tactic(auto, using(crate::proofs::TwoBlocks::fourth_reached))]
-pub(crate) fn write_three(mem: &mut WordMem, at: u32, words: &[u32]) -> bool
+pub(crate) fn write_three<M: HcMemory>(mem: &mut M, at: u32, words: &[u32]) -> bool
     requires aligned { at % 32 ≡ 0 }
     requires three { length words.now ≡ 3 }
-    ensures written { result ≡ reaches mem.old at }
-    ensures memory { mem.new ≡ (if reaches mem.old at then with_words mem.old (at + 12) words.now else refused mem.old) }
-    ensures only_lent { IsByController mem.old mem.new }
+    ensures written { result ≡ reaches (M.mem mem.old) at }
+    ensures memory { M.mem mem.new ≡
+        (if reaches (M.mem mem.old) at then with_words (M.mem mem.old) (at + 12) words.now else refused (M.mem mem.old)) }
+    ensures only_lent { IsByController (M.mem mem.old) (M.mem mem.new) }
 {
     mem.hc_write_words(at + 12, words)
 }

@@ -12,13 +12,13 @@ use async_walk::WalkStep;
 use hc_copy::Held;
 use hc_interrupt::microframe;
 use hc_iso::{HeldItd, HeldSitd};
+use hc_memory::HcMemory;
 use itd_sitd::{Itd, Sitd};
 use link_words::Link;
 use mem_descriptors::{read_itd, read_sitd};
 use mem_queues::read_queue_head;
 use op_registers::Registers;
 use qh_qtd::Qh;
-use word_mem::WordMem;
 
 /// What the cursor's link leads to, with what was read there.
 #[derive(Clone, Copy, Debug, PartialEq, Eq)]
@@ -35,12 +35,12 @@ pub enum ChainRow {
     Sitd(u32, Sitd),
 }
 
-fn fetch_queue(at: u32, mem: &mut WordMem) -> ChainRow
+fn fetch_queue<M: HcMemory>(at: u32, mem: &mut M) -> ChainRow
     requires { at % 32 ≡ 0 }
     ensures sound { IsSound result }
-    ensures row { result ≡ chain_row mem.old (Link.Qh at) }
-    ensures memory { mem.new ≡ chain_read mem.old (Link.Qh at) }
-    ensures only_lent { IsByController mem.old mem.new }
+    ensures row { result ≡ chain_row (M.mem mem.old) (Link.Qh at) }
+    ensures memory { M.mem mem.new ≡ chain_read (M.mem mem.old) (Link.Qh at) }
+    ensures only_lent { IsByController (M.mem mem.old) (M.mem mem.new) }
 {
     match read_queue_head(mem, at) {
         None => ChainRow::Fault,
@@ -48,12 +48,12 @@ fn fetch_queue(at: u32, mem: &mut WordMem) -> ChainRow
     }
 }
 
-fn fetch_itd(at: u32, mem: &mut WordMem) -> ChainRow
+fn fetch_itd<M: HcMemory>(at: u32, mem: &mut M) -> ChainRow
     requires { at % 32 ≡ 0 }
     ensures sound { IsSound result }
-    ensures row { result ≡ chain_row mem.old (Link.Itd at) }
-    ensures memory { mem.new ≡ chain_read mem.old (Link.Itd at) }
-    ensures only_lent { IsByController mem.old mem.new }
+    ensures row { result ≡ chain_row (M.mem mem.old) (Link.Itd at) }
+    ensures memory { M.mem mem.new ≡ chain_read (M.mem mem.old) (Link.Itd at) }
+    ensures only_lent { IsByController (M.mem mem.old) (M.mem mem.new) }
 {
     match read_itd(mem, at) {
         None => ChainRow::Fault,
@@ -61,12 +61,12 @@ fn fetch_itd(at: u32, mem: &mut WordMem) -> ChainRow
     }
 }
 
-fn fetch_sitd(at: u32, mem: &mut WordMem) -> ChainRow
+fn fetch_sitd<M: HcMemory>(at: u32, mem: &mut M) -> ChainRow
     requires { at % 32 ≡ 0 }
     ensures sound { IsSound result }
-    ensures row { result ≡ chain_row mem.old (Link.Sitd at) }
-    ensures memory { mem.new ≡ chain_read mem.old (Link.Sitd at) }
-    ensures only_lent { IsByController mem.old mem.new }
+    ensures row { result ≡ chain_row (M.mem mem.old) (Link.Sitd at) }
+    ensures memory { M.mem mem.new ≡ chain_read (M.mem mem.old) (Link.Sitd at) }
+    ensures only_lent { IsByController (M.mem mem.old) (M.mem mem.new) }
 {
     match read_sitd(mem, at) {
         None => ChainRow::Fault,
@@ -75,12 +75,12 @@ fn fetch_sitd(at: u32, mem: &mut WordMem) -> ChainRow
 }
 
 /// The row of a cursor at this link, where no copy is in hand.
-fn fetched(link: Link, mem: &mut WordMem) -> ChainRow
+fn fetched<M: HcMemory>(link: Link, mem: &mut M) -> ChainRow
     requires { IsAligned link }
     ensures sound { IsSound result }
-    ensures row { result ≡ chain_row mem.old link }
-    ensures memory { mem.new ≡ chain_read mem.old link }
-    ensures only_lent { IsByController mem.old mem.new }
+    ensures row { result ≡ chain_row (M.mem mem.old) link }
+    ensures memory { M.mem mem.new ≡ chain_read (M.mem mem.old) link }
+    ensures only_lent { IsByController (M.mem mem.old) (M.mem mem.new) }
 {
     match link {
         Link::End => ChainRow::Ends,
@@ -161,10 +161,12 @@ impl PeriodicState {
     }
 
     /// The event of a walk with no copy in hand.
-    pub(crate) fn fetch(&mut self, regs: &mut Registers, mem: &mut WordMem) -> WalkStep
-        ensures step { result ≡ chain_step (chain_row mem.old self.old.cursor) }
-        ensures place { place self.new regs.new mem.new ≡ chain_after (chain_row mem.old self.old.cursor) (place self.old regs.old (chain_read mem.old self.old.cursor)) }
-        ensures only_lent { IsByController mem.old mem.new }
+    pub(crate) fn fetch<M: HcMemory>(&mut self, regs: &mut Registers, mem: &mut M) -> WalkStep
+        ensures step { result ≡ chain_step (chain_row (M.mem mem.old) self.old.cursor) }
+        ensures place { place self.new regs.new (M.mem mem.new)
+            ≡ chain_after (chain_row (M.mem mem.old) self.old.cursor)
+            (place self.old regs.old (chain_read (M.mem mem.old) self.old.cursor)) }
+        ensures only_lent { IsByController (M.mem mem.old) (M.mem mem.new) }
     {
         let row = fetched(self.cursor, mem);
         self.reach(row, regs)

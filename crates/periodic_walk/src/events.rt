@@ -7,21 +7,21 @@ ghost use Rattle.periodic_walk.specs.Rows.{step_of, Leads};
 
 use crate::state::{Hand, PeriodicState};
 use async_walk::WalkStep;
+use hc_memory::HcMemory;
 use op_registers::Registers;
 use usb_base::Wire;
-use word_mem::WordMem;
 
 /// Makes the event.
 #[inline(always)]
-fn turn<W: Wire>(
+fn turn<W: Wire, M: HcMemory>(
     st: &mut PeriodicState,
     regs: &mut Registers,
-    mem: &mut WordMem,
+    mem: &mut M,
     wire: &mut W,
 ) -> WalkStep
-    ensures kind { result ≡ step_of (place st.old regs.old mem.old) }
-    ensures row { Leads W.transacts (place st.old regs.old mem.old) wire.old (place st.new regs.new mem.new) wire.new }
-    ensures only_lent { IsByController mem.old mem.new }
+    ensures kind { result ≡ step_of (place st.old regs.old (M.mem mem.old)) }
+    ensures row { Leads W.transacts (place st.old regs.old (M.mem mem.old)) wire.old (place st.new regs.new (M.mem mem.new)) wire.new }
+    ensures only_lent { IsByController (M.mem mem.old) (M.mem mem.new) }
 {
     match st.hand {
         None => st.fetch(regs, mem),
@@ -40,20 +40,20 @@ fn turn<W: Wire>(
 ///   written lies past the last page or isn't Lent. Then Host System Error stands and Run is 0.
 /// - Else it makes a Fetch, an Advance, a Transact or a WriteBack.
 #[tactic(auto, using(crate::proofs::Causing::ends_for_a_reason, crate::proofs::Caused::ends_for_each_reason))]
-pub fn step<W: Wire>(
+pub fn step<W: Wire, M: HcMemory>(
     st: &mut PeriodicState,
     regs: &mut Registers,
-    mem: &mut WordMem,
+    mem: &mut M,
     wire: &mut W,
 ) -> WalkStep
-    ensures kind { result ≡ step_of (place st.old regs.old mem.old) }
-    ensures row { Leads W.transacts (place st.old regs.old mem.old) wire.old (place st.new regs.new mem.new) wire.new }
-    ensures only_lent { IsByController mem.old mem.new }
-    ensures ends { (result ≡ WalkStep.Ended) ↔ ChainEnds (place st.old regs.old mem.old) }
-    ensures skips { (result ≡ WalkStep.Skip) ↔ HasNothing (place st.old regs.old mem.old) }
-    ensures faults { (result ≡ WalkStep.Fault) ↔ IsStuck (place st.old regs.old mem.old) }
-    ensures works { IsWorked (place st.old regs.old mem.old) result }
-    ensures refused { AreRefusalsFaults mem.old mem.new regs.new }
+    ensures kind { result ≡ step_of (place st.old regs.old (M.mem mem.old)) }
+    ensures row { Leads W.transacts (place st.old regs.old (M.mem mem.old)) wire.old (place st.new regs.new (M.mem mem.new)) wire.new }
+    ensures only_lent { IsByController (M.mem mem.old) (M.mem mem.new) }
+    ensures ends { (result ≡ WalkStep.Ended) ↔ ChainEnds (place st.old regs.old (M.mem mem.old)) }
+    ensures skips { (result ≡ WalkStep.Skip) ↔ HasNothing (place st.old regs.old (M.mem mem.old)) }
+    ensures faults { (result ≡ WalkStep.Fault) ↔ IsStuck (place st.old regs.old (M.mem mem.old)) }
+    ensures works { IsWorked (place st.old regs.old (M.mem mem.old)) result }
+    ensures refused { AreRefusalsFaults (M.mem mem.old) (M.mem mem.new) regs.new }
 {
     turn(st, regs, mem, wire)
 }

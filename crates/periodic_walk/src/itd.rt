@@ -8,9 +8,9 @@ use crate::state::{Hand, PeriodicState};
 use arrayvec::ArrayVec;
 use async_walk::WalkStep;
 use hc_iso::{Heard, HeldItd, IsoEnd, IsoTransaction, bytes, load_itd, raise_itd, write_itd};
+use hc_memory::HcMemory;
 use op_registers::Registers;
 use usb_base::{Ps, Reply, Wire};
-use word_mem::WordMem;
 
 /// The kind of an event at an iTD in hand.
 #[derive(Clone, Copy, Debug, PartialEq, Eq)]
@@ -50,12 +50,12 @@ fn keep_heard(got: &mut ArrayVec<u8, 3072>, held: &HeldItd, reply: &Reply)
 impl PeriodicState {
     /// The transaction, or the fault where a byte that it sends can't be read.
     #[tactic(auto, using(crate::proofs::Got::got_bounded, crate::proofs::Got::room_for_packet))]
-    fn transact_itd<W: Wire>(
+    fn transact_itd<W: Wire, M: HcMemory>(
         &mut self,
         held: HeldItd,
         t: &IsoTransaction,
         regs: &mut Registers,
-        mem: &mut WordMem,
+        mem: &mut M,
         wire: &mut W,
     ) -> WalkStep
         requires held { IsItdHeld held }
@@ -63,9 +63,10 @@ impl PeriodicState {
         requires got { length self.old.got ≤ held.moved }
         requires next { t.now ≡ itd_transaction held }
         requires size { t.now.bytes ≤ 1024 }
-        ensures step { result ≡ itd_step (ItdRow.Transact t.now) held (place self.old regs.old mem.old) }
-        ensures row { HasEffect W.transacts (itd_sent t.now held (place self.old regs.old mem.old)) wire.old (place self.new regs.new mem.new) wire.new }
-        ensures only_lent { IsByController mem.old mem.new }
+        ensures step { result ≡ itd_step (ItdRow.Transact t.now) held (place self.old regs.old (M.mem mem.old)) }
+        ensures row { HasEffect W.transacts (itd_sent t.now held (place self.old regs.old (M.mem mem.old))) wire.old
+            (place self.new regs.new (M.mem mem.new)) wire.new }
+        ensures only_lent { IsByController (M.mem mem.old) (M.mem mem.new) }
     {
         let mut held = held;
         let room = &mut self.out[..];
@@ -82,18 +83,18 @@ impl PeriodicState {
         WalkStep::Transact
     }
 
-    fn write_itd(
+    fn write_itd<M: HcMemory>(
         &mut self,
         held: &HeldItd,
         ended: IsoEnd,
         regs: &mut Registers,
-        mem: &mut WordMem,
+        mem: &mut M,
     ) -> WalkStep
         requires held { IsItdHeld held.now }
         requires got { length self.old.got ≤ held.now.moved }
-        ensures step { result ≡ wrote_step held.now (place self.old regs.old mem.old) }
-        ensures place { place self.new regs.new mem.new ≡ wrote held.now ended (place self.old regs.old mem.old) }
-        ensures only_lent { IsByController mem.old mem.new }
+        ensures step { result ≡ wrote_step held.now (place self.old regs.old (M.mem mem.old)) }
+        ensures place { place self.new regs.new (M.mem mem.new) ≡ wrote held.now ended (place self.old regs.old (M.mem mem.old)) }
+        ensures only_lent { IsByController (M.mem mem.old) (M.mem mem.new) }
     {
         if !write_itd(mem, held, self.got.as_slice()) {
             self.fault(regs);
@@ -105,19 +106,20 @@ impl PeriodicState {
     }
 
     /// The event of an iTD of which a transaction may come.
-    fn open_itd<W: Wire>(
+    fn open_itd<W: Wire, M: HcMemory>(
         &mut self,
         held: HeldItd,
         regs: &mut Registers,
-        mem: &mut WordMem,
+        mem: &mut M,
         wire: &mut W,
     ) -> WalkStep
         requires held { IsItdHeld held }
         requires going { held.ended ≡ None }
         requires got { length self.old.got ≤ held.moved }
-        ensures step { result ≡ itd_step (open_row self.old.left held) held (place self.old regs.old mem.old) }
-        ensures row { HasEffect W.transacts (itd_effect (open_row self.old.left held) held (place self.old regs.old mem.old)) wire.old (place self.new regs.new mem.new) wire.new }
-        ensures only_lent { IsByController mem.old mem.new }
+        ensures step { result ≡ itd_step (open_row self.old.left held) held (place self.old regs.old (M.mem mem.old)) }
+        ensures row { HasEffect W.transacts (itd_effect (open_row self.old.left held) held (place self.old regs.old (M.mem mem.old)))
+            wire.old (place self.new regs.new (M.mem mem.new)) wire.new }
+        ensures only_lent { IsByController (M.mem mem.old) (M.mem mem.new) }
     {
         if !held.slot.active {
             self.pass(held.itd.link);
@@ -132,18 +134,19 @@ impl PeriodicState {
     }
 
     /// The event of a walk with an iTD in hand.
-    pub(crate) fn visit_itd<W: Wire>(
+    pub(crate) fn visit_itd<W: Wire, M: HcMemory>(
         &mut self,
         held: HeldItd,
         regs: &mut Registers,
-        mem: &mut WordMem,
+        mem: &mut M,
         wire: &mut W,
     ) -> WalkStep
         requires held { IsItdHeld held }
         requires got { length self.old.got ≤ held.moved }
-        ensures step { result ≡ itd_step (itd_row self.old.left held) held (place self.old regs.old mem.old) }
-        ensures row { HasEffect W.transacts (itd_effect (itd_row self.old.left held) held (place self.old regs.old mem.old)) wire.old (place self.new regs.new mem.new) wire.new }
-        ensures only_lent { IsByController mem.old mem.new }
+        ensures step { result ≡ itd_step (itd_row self.old.left held) held (place self.old regs.old (M.mem mem.old)) }
+        ensures row { HasEffect W.transacts (itd_effect (itd_row self.old.left held) held (place self.old regs.old (M.mem mem.old)))
+            wire.old (place self.new regs.new (M.mem mem.new)) wire.new }
+        ensures only_lent { IsByController (M.mem mem.old) (M.mem mem.new) }
     {
         match held.ended {
             None => self.open_itd(held, regs, mem, wire),

@@ -15,13 +15,13 @@ use crate::state::{Hand, HeldQueue, PeriodicState};
 use async_walk::WalkStep;
 use hc_copy::{Transaction, raise, read_out, take_qtd, write_back};
 use hc_interrupt::{Turn, again, goes_on, missed, planned as next, transact, turn_in};
+use hc_memory::HcMemory;
 use link_words::QtdLink;
 use mem_queues::read_qtd;
 use op_registers::Registers;
 use qh_qtd::{Qh, Qtd};
 use toggle_error::Outcome;
 use usb_base::{EndCause, Ps, Wire};
-use word_mem::WordMem;
 
 /// The kind of an event at a queue head in hand, with what it read.
 #[derive(Clone, Copy, Debug, PartialEq, Eq)]
@@ -54,12 +54,12 @@ fn work(queue_head: &Qh, left: Ps) -> QueueRow
 }
 
 /// The row of a queue head that takes a qTD.
-fn take_next(link: QtdLink, mem: &mut WordMem) -> QueueRow
+fn take_next<M: HcMemory>(link: QtdLink, mem: &mut M) -> QueueRow
     requires { IsQtdAligned link }
     ensures sound { IsSound result }
-    ensures row { result ≡ take_row mem.old link }
-    ensures memory { mem.new ≡ take_read mem.old link }
-    ensures only_lent { IsByController mem.old mem.new }
+    ensures row { result ≡ take_row (M.mem mem.old) link }
+    ensures memory { M.mem mem.new ≡ take_read (M.mem mem.old) link }
+    ensures only_lent { IsByController (M.mem mem.old) (M.mem mem.new) }
 {
     match link {
         QtdLink::End => QueueRow::Skip,
@@ -72,12 +72,12 @@ fn take_next(link: QtdLink, mem: &mut WordMem) -> QueueRow
 }
 
 /// The row of a copy whose transaction wasn't made yet.
-fn visited(frindex: u16, queue_head: &Qh, left: Ps, mem: &mut WordMem) -> QueueRow
+fn visited<M: HcMemory>(frindex: u16, queue_head: &Qh, left: Ps, mem: &mut M) -> QueueRow
     requires { IsQhInRange queue_head.now }
     ensures sound { IsSound result }
-    ensures row { result ≡ turn_row mem.old left.0 queue_head.now (turn_of frindex queue_head.now) }
-    ensures memory { mem.new ≡ turn_read mem.old (turn_of frindex queue_head.now) }
-    ensures only_lent { IsByController mem.old mem.new }
+    ensures row { result ≡ turn_row (M.mem mem.old) left.0 queue_head.now (turn_of frindex queue_head.now) }
+    ensures memory { M.mem mem.new ≡ turn_read (M.mem mem.old) (turn_of frindex queue_head.now) }
+    ensures only_lent { IsByController (M.mem mem.old) (M.mem mem.new) }
 {
     match turn_in(frindex, queue_head) {
         Turn::Rest => QueueRow::Skip,
@@ -88,20 +88,20 @@ fn visited(frindex: u16, queue_head: &Qh, left: Ps, mem: &mut WordMem) -> QueueR
 }
 
 impl PeriodicState {
-    fn take(
+    fn take<M: HcMemory>(
         &mut self,
         held: HeldQueue,
         at: u32,
         qtd: &Qtd,
         regs: &mut Registers,
-        mem: &mut WordMem,
+        mem: &mut M,
     ) -> WalkStep
         requires held { IsHeld held.copy }
         requires aligned { at % 32 ≡ 0 }
         requires range { IsQtdInRange qtd.now }
-        ensures step { result ≡ took_step held mem.old }
-        ensures place { place self.new regs.new mem.new ≡ took held at qtd.now (place self.old regs.old mem.old) }
-        ensures only_lent { IsByController mem.old mem.new }
+        ensures step { result ≡ took_step held (M.mem mem.old) }
+        ensures place { place self.new regs.new (M.mem mem.new) ≡ took held at qtd.now (place self.old regs.old (M.mem mem.old)) }
+        ensures only_lent { IsByController (M.mem mem.old) (M.mem mem.new) }
     {
         let mut held = held;
         if take_qtd(&mut held.copy, at, qtd, mem) {
@@ -113,19 +113,20 @@ impl PeriodicState {
     }
 
     /// The transaction, or the fault where a byte that it sends can't be read.
-    fn transact_queue<W: Wire>(
+    fn transact_queue<W: Wire, M: HcMemory>(
         &mut self,
         held: HeldQueue,
         t: &Transaction,
         regs: &mut Registers,
-        mem: &mut WordMem,
+        mem: &mut M,
         wire: &mut W,
     ) -> WalkStep
         requires held { IsHeld held.copy }
         requires can { CanBeMade t.now }
-        ensures step { result ≡ sent_step t.now held mem.old }
-        ensures row { HasEffect W.transacts (queue_sent t.now held (place self.old regs.old mem.old)) wire.old (place self.new regs.new mem.new) wire.new }
-        ensures only_lent { IsByController mem.old mem.new }
+        ensures step { result ≡ sent_step t.now held (M.mem mem.old) }
+        ensures row { HasEffect W.transacts (queue_sent t.now held (place self.old regs.old (M.mem mem.old))) wire.old
+            (place self.new regs.new (M.mem mem.new)) wire.new }
+        ensures only_lent { IsByController (M.mem mem.old) (M.mem mem.new) }
     {
         let mut held = held;
         let room = &mut self.out[..];
@@ -155,17 +156,17 @@ impl PeriodicState {
         self.pass(held.copy.queue_head.link);
     }
 
-    fn write_queue(
+    fn write_queue<M: HcMemory>(
         &mut self,
         held: HeldQueue,
         outcome: Outcome,
         regs: &mut Registers,
-        mem: &mut WordMem,
+        mem: &mut M,
     ) -> WalkStep
         requires { IsHeld held.copy }
-        ensures step { result ≡ wrote_step held outcome (place self.old regs.old mem.old) }
-        ensures place { place self.new regs.new mem.new ≡ wrote held outcome (place self.old regs.old mem.old) }
-        ensures only_lent { IsByController mem.old mem.new }
+        ensures step { result ≡ wrote_step held outcome (place self.old regs.old (M.mem mem.old)) }
+        ensures place { place self.new regs.new (M.mem mem.new) ≡ wrote held outcome (place self.old regs.old (M.mem mem.old)) }
+        ensures only_lent { IsByController (M.mem mem.old) (M.mem mem.new) }
     {
         let queue_head = &held.copy.queue_head;
         if !write_back(mem, held.copy.at, queue_head, outcome, &self.reply) {
@@ -177,11 +178,17 @@ impl PeriodicState {
         WalkStep::WriteBack
     }
 
-    fn miss_queue(&mut self, held: HeldQueue, regs: &mut Registers, mem: &mut WordMem) -> WalkStep
+    fn miss_queue<M: HcMemory>(
+        &mut self,
+        held: HeldQueue,
+        regs: &mut Registers,
+        mem: &mut M,
+    ) -> WalkStep
         requires { IsHeld held.copy }
-        ensures step { result ≡ wrote_step (missed_held held) miss_outcome (place self.old regs.old mem.old) }
-        ensures place { place self.new regs.new mem.new ≡ wrote (missed_held held) miss_outcome (place self.old regs.old mem.old) }
-        ensures only_lent { IsByController mem.old mem.new }
+        ensures step { result ≡ wrote_step (missed_held held) miss_outcome (place self.old regs.old (M.mem mem.old)) }
+        ensures place { place self.new regs.new (M.mem mem.new)
+            ≡ wrote (missed_held held) miss_outcome (place self.old regs.old (M.mem mem.old)) }
+        ensures only_lent { IsByController (M.mem mem.old) (M.mem mem.new) }
     {
         let mut held = held;
         missed(&mut held.copy);
@@ -189,19 +196,20 @@ impl PeriodicState {
     }
 
     /// The event of this row.
-    fn make_queue<W: Wire>(
+    fn make_queue<W: Wire, M: HcMemory>(
         &mut self,
         row: QueueRow,
         held: HeldQueue,
         regs: &mut Registers,
-        mem: &mut WordMem,
+        mem: &mut M,
         wire: &mut W,
     ) -> WalkStep
         requires held { IsHeld held.copy }
         requires sound { IsSound row }
-        ensures step { result ≡ queue_step row held (place self.old regs.old mem.old) }
-        ensures row { HasEffect W.transacts (queue_effect row held (place self.old regs.old mem.old)) wire.old (place self.new regs.new mem.new) wire.new }
-        ensures only_lent { IsByController mem.old mem.new }
+        ensures step { result ≡ queue_step row held (place self.old regs.old (M.mem mem.old)) }
+        ensures row { HasEffect W.transacts (queue_effect row held (place self.old regs.old (M.mem mem.old))) wire.old
+            (place self.new regs.new (M.mem mem.new)) wire.new }
+        ensures only_lent { IsByController (M.mem mem.old) (M.mem mem.new) }
     {
         match row {
             QueueRow::Fault => {
@@ -226,17 +234,18 @@ impl PeriodicState {
     }
 
     /// The event of a walk with a queue head in hand.
-    pub(crate) fn visit_queue<W: Wire>(
+    pub(crate) fn visit_queue<W: Wire, M: HcMemory>(
         &mut self,
         held: HeldQueue,
         regs: &mut Registers,
-        mem: &mut WordMem,
+        mem: &mut M,
         wire: &mut W,
     ) -> WalkStep
         requires { IsHeld held.copy }
-        ensures step { result ≡ step_at (place self.old regs.old mem.old) (Some (Queue held)) }
-        ensures row { HasEffect W.transacts (effect_at (place self.old regs.old mem.old) (Some (Queue held))) wire.old (place self.new regs.new mem.new) wire.new }
-        ensures only_lent { IsByController mem.old mem.new }
+        ensures step { result ≡ step_at (place self.old regs.old (M.mem mem.old)) (Some (Queue held)) }
+        ensures row { HasEffect W.transacts (effect_at (place self.old regs.old (M.mem mem.old)) (Some (Queue held))) wire.old
+            (place self.new regs.new (M.mem mem.new)) wire.new }
+        ensures only_lent { IsByController (M.mem mem.old) (M.mem mem.new) }
     {
         match held.copy.settled {
             None => {

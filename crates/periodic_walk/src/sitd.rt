@@ -11,9 +11,9 @@ use hc_interrupt::microframe;
 use hc_iso::{
     HeldSitd, IsoTransaction, SitdTurn, SplitOutcome, load_sitd, raise_sitd, turn, write_sitd,
 };
+use hc_memory::HcMemory;
 use op_registers::Registers;
 use usb_base::{Ps, Wire};
-use word_mem::WordMem;
 
 /// The kind of an event at a siTD in hand.
 #[derive(Clone, Copy, Debug, PartialEq, Eq)]
@@ -30,19 +30,20 @@ pub enum SitdRow {
 
 impl PeriodicState {
     /// The transaction, or the fault where a byte that it sends can't be read.
-    fn transact_sitd<W: Wire>(
+    fn transact_sitd<W: Wire, M: HcMemory>(
         &mut self,
         held: HeldSitd,
         t: &IsoTransaction,
         regs: &mut Registers,
-        mem: &mut WordMem,
+        mem: &mut M,
         wire: &mut W,
     ) -> WalkStep
         requires held { IsSitdHeld held }
         requires size { t.now.bytes ≤ 1024 }
-        ensures step { result ≡ sitd_step (SitdRow.Transact t.now) held (place self.old regs.old mem.old) }
-        ensures row { HasEffect W.transacts (sitd_sent t.now held (place self.old regs.old mem.old)) wire.old (place self.new regs.new mem.new) wire.new }
-        ensures only_lent { IsByController mem.old mem.new }
+        ensures step { result ≡ sitd_step (SitdRow.Transact t.now) held (place self.old regs.old (M.mem mem.old)) }
+        ensures row { HasEffect W.transacts (sitd_sent t.now held (place self.old regs.old (M.mem mem.old))) wire.old
+            (place self.new regs.new (M.mem mem.new)) wire.new }
+        ensures only_lent { IsByController (M.mem mem.old) (M.mem mem.new) }
     {
         let mut held = held;
         let room = &mut self.out[..];
@@ -58,17 +59,17 @@ impl PeriodicState {
         WalkStep::Transact
     }
 
-    fn write_sitd(
+    fn write_sitd<M: HcMemory>(
         &mut self,
         held: &HeldSitd,
         outcome: SplitOutcome,
         regs: &mut Registers,
-        mem: &mut WordMem,
+        mem: &mut M,
     ) -> WalkStep
         requires { IsSitdHeld held.now }
-        ensures step { result ≡ wrote_step held.now outcome (place self.old regs.old mem.old) }
-        ensures place { place self.new regs.new mem.new ≡ wrote held.now outcome (place self.old regs.old mem.old) }
-        ensures only_lent { IsByController mem.old mem.new }
+        ensures step { result ≡ wrote_step held.now outcome (place self.old regs.old (M.mem mem.old)) }
+        ensures place { place self.new regs.new (M.mem mem.new) ≡ wrote held.now outcome (place self.old regs.old (M.mem mem.old)) }
+        ensures only_lent { IsByController (M.mem mem.old) (M.mem mem.new) }
     {
         if !write_sitd(mem, held, outcome, &self.reply) {
             self.fault(regs);
@@ -79,28 +80,36 @@ impl PeriodicState {
         WalkStep::WriteBack
     }
 
-    fn miss_sitd(&mut self, held: HeldSitd, regs: &mut Registers, mem: &mut WordMem) -> WalkStep
+    fn miss_sitd<M: HcMemory>(
+        &mut self,
+        held: HeldSitd,
+        regs: &mut Registers,
+        mem: &mut M,
+    ) -> WalkStep
         requires { IsSitdHeld held }
-        ensures step { result ≡ wrote_step (missed_copy held) SplitOutcome.Failed (place self.old regs.old mem.old) }
-        ensures place { place self.new regs.new mem.new ≡ wrote (missed_copy held) SplitOutcome.Failed (place self.old regs.old mem.old) }
-        ensures only_lent { IsByController mem.old mem.new }
+        ensures step { result ≡ wrote_step (missed_copy held) SplitOutcome.Failed (place self.old regs.old (M.mem mem.old)) }
+        ensures place { place self.new regs.new (M.mem mem.new)
+            ≡ wrote (missed_copy held) SplitOutcome.Failed (place self.old regs.old (M.mem mem.old)) }
+        ensures only_lent { IsByController (M.mem mem.old) (M.mem mem.new) }
     {
         let mut held = held;
         held.miss();
         self.write_sitd(&held, SplitOutcome::Failed, regs, mem)
     }
 
-    fn work_sitd<W: Wire>(
+    fn work_sitd<W: Wire, M: HcMemory>(
         &mut self,
         held: HeldSitd,
         regs: &mut Registers,
-        mem: &mut WordMem,
+        mem: &mut M,
         wire: &mut W,
     ) -> WalkStep
         requires { IsSitdHeld held }
-        ensures step { result ≡ sitd_step (timed_row self.old.left (sitd_transaction held.sitd)) held (place self.old regs.old mem.old) }
-        ensures row { HasEffect W.transacts (work_effect held (place self.old regs.old mem.old)) wire.old (place self.new regs.new mem.new) wire.new }
-        ensures only_lent { IsByController mem.old mem.new }
+        ensures step { result ≡ sitd_step (timed_row self.old.left (sitd_transaction held.sitd)) held
+            (place self.old regs.old (M.mem mem.old)) }
+        ensures row { HasEffect W.transacts (work_effect held (place self.old regs.old (M.mem mem.old))) wire.old
+            (place self.new regs.new (M.mem mem.new)) wire.new }
+        ensures only_lent { IsByController (M.mem mem.old) (M.mem mem.new) }
     {
         let t = held.next();
         if t.price > self.left {
@@ -110,17 +119,19 @@ impl PeriodicState {
         self.transact_sitd(held, &t, regs, mem, wire)
     }
 
-    fn turn_sitd<W: Wire>(
+    fn turn_sitd<W: Wire, M: HcMemory>(
         &mut self,
         held: HeldSitd,
         regs: &mut Registers,
-        mem: &mut WordMem,
+        mem: &mut M,
         wire: &mut W,
     ) -> WalkStep
         requires { IsSitdHeld held }
-        ensures step { result ≡ sitd_step (turn_row self.old.left held.sitd (sitd_turn (microframe_of self.old.index) held.sitd)) held (place self.old regs.old mem.old) }
-        ensures row { HasEffect W.transacts (turn_effect held (place self.old regs.old mem.old)) wire.old (place self.new regs.new mem.new) wire.new }
-        ensures only_lent { IsByController mem.old mem.new }
+        ensures step { result ≡ sitd_step (turn_row self.old.left held.sitd (sitd_turn (microframe_of self.old.index) held.sitd)) held
+            (place self.old regs.old (M.mem mem.old)) }
+        ensures row { HasEffect W.transacts (turn_effect held (place self.old regs.old (M.mem mem.old))) wire.old
+            (place self.new regs.new (M.mem mem.new)) wire.new }
+        ensures only_lent { IsByController (M.mem mem.old) (M.mem mem.new) }
     {
         match turn(microframe(self.index), &held.sitd) {
             SitdTurn::Rest => {
@@ -133,17 +144,19 @@ impl PeriodicState {
     }
 
     /// The event of a walk with a siTD in hand.
-    pub(crate) fn visit_sitd<W: Wire>(
+    pub(crate) fn visit_sitd<W: Wire, M: HcMemory>(
         &mut self,
         held: HeldSitd,
         regs: &mut Registers,
-        mem: &mut WordMem,
+        mem: &mut M,
         wire: &mut W,
     ) -> WalkStep
         requires { IsSitdHeld held }
-        ensures step { result ≡ sitd_step (sitd_row (place self.old regs.old mem.old) held) held (place self.old regs.old mem.old) }
-        ensures row { HasEffect W.transacts (sitd_effect (sitd_row (place self.old regs.old mem.old) held) held (place self.old regs.old mem.old)) wire.old (place self.new regs.new mem.new) wire.new }
-        ensures only_lent { IsByController mem.old mem.new }
+        ensures step { result ≡ sitd_step (sitd_row (place self.old regs.old (M.mem mem.old)) held) held
+            (place self.old regs.old (M.mem mem.old)) }
+        ensures row { HasEffect W.transacts (sitd_effect (sitd_row (place self.old regs.old (M.mem mem.old)) held) held
+            (place self.old regs.old (M.mem mem.old))) wire.old (place self.new regs.new (M.mem mem.new)) wire.new }
+        ensures only_lent { IsByController (M.mem mem.old) (M.mem mem.new) }
     {
         match held.settled {
             None => self.turn_sitd(held, regs, mem, wire),

@@ -9,18 +9,18 @@ use Rattle.async_walk.proofs.events.step.Goals as goal
 
 pub returns-clause-faults : goal.returns-clause-faults
 returns-clause-faults g c =
-    let p : WalkPlace = place c.args.st.now c.args.regs.now c.args.mem.now in
+    let p : WalkPlace = place c.args.st.now c.args.regs.now (g.M.HcMemory.mem c.args.mem.now) in
     let kind : c.turn.result ≡ step_of (event_row p) (at_event p) = c.turn.ensures.kind in
     ((λ is. faults_for_a_reason p (sym kind ∙ is)), (λ stuck. kind ∙ faults_for_each_reason p stuck))
 
 pub returns-clause-works : goal.returns-clause-works
 returns-clause-works g c =
-    let p : WalkPlace = place c.args.st.now c.args.regs.now c.args.mem.now in
+    let p : WalkPlace = place c.args.st.now c.args.regs.now (g.M.HcMemory.mem c.args.mem.now) in
     let kind : c.turn.result ≡ step_of (event_row p) (at_event p) = c.turn.ensures.kind in
     subst (λ (step : WalkStep). IsWorked p step) (sym kind) (works p)
 
 pub returns-clause-refused : goal.returns-clause-refused
 returns-clause-refused g c =
-    let p : WalkPlace = place c.args.st.now c.args.regs.now c.args.mem.now in
-    let new : WalkPlace = place c.turn.new.st c.turn.new.regs c.turn.new.mem in
+    let p : WalkPlace = place c.args.st.now c.args.regs.now (g.M.HcMemory.mem c.args.mem.now) in
+    let new : WalkPlace = place c.turn.new.st c.turn.new.regs (g.M.HcMemory.mem c.turn.new.mem) in
     refusals_are_faults g.W.Wire.transacts p new c.args.wire.now c.turn.new.wire c.turn.ensures.row

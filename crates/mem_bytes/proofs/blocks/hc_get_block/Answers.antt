@@ -8,12 +8,12 @@ use Rattle.mem_bytes.proofs.WholeBlocks.{word_loaded}
 use Rattle.mem_bytes.proofs.blocks.hc_get_block.Goals as goal
 
 pub loop-i-init : goal.loop-i-init
-loop-i-init c = read_none c.hc_read_words.new.self c.args.pages.now c.args.k c.args.into.now
+loop-i-init g c = read_none (g.M.HcMemory.mem c.hc_read_words.new.self) c.args.pages.now c.args.k c.args.into.now
 
 pub loop-i-preserved : goal.loop-i-preserved
-loop-i-preserved c =
-    let m = c.args.mem.now in
-    let now = c.hc_read_words.new.self in
+loop-i-preserved g c =
+    let m = g.M.HcMemory.mem c.args.mem.now in
+    let now = g.M.HcMemory.mem c.hc_read_words.new.self in
     let pages = c.args.pages.now in
     let k = c.args.k in
     let at = c.args.at in
