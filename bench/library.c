@@ -1,10 +1,11 @@
-/* What a microframe costs from C, in processor time: idle, and with eight packets of 512 bytes of a bulk IN, over 32 KiB and over 1 MiB. */
+/* What a microframe costs from C, in processor time: idle, and with eight packets of 512 bytes of a bulk IN, over 32 KiB and over 1 MiB; and
+ * those packets an event a call, over 32 KiB and over 64 MiB. */
 #include "ehci_bus.h"
 
 #include <stdio.h>
 #include <time.h>
 
-static uint32_t ram[262144];
+static uint32_t ram[16777216];
 static unsigned long packets;
 
 static struct ehci_answer bus(void *user, const struct ehci_ask *ask, const uint8_t *out, uint8_t *data) {
@@ -18,28 +19,57 @@ static void set(uint32_t at, uint32_t word) { ram[at / 4] = word; }
 
 static double now(void) { return 1e6 * clock() / CLOCKS_PER_SEC; }
 
-static void measure(size_t words, int busy, int turns) {
-    struct ehci hc;
-    uint32_t events;
-    memset(ram, 0, sizeof ram);
+static void lists(void) {
     for (int frame = 0; frame < 1024; frame++)
         ram[frame] = 1;
     set(0x1000, 0x1042), set(0x1004, 0x0040a000), set(0x1008, 0x40000000), set(0x1010, 1), set(0x1014, 1), set(0x1018, 0x40);
     set(0x1040, 0x1002), set(0x1044, 0x02002103), set(0x1048, 0x40000000), set(0x1050, 1), set(0x1054, 1), set(0x1058, 0x40);
+}
+
+static void refill(void) {
+    set(0x10a0, 1), set(0x10a4, 1), set(0x10a8, 4096u << 16 | 0x0d80), set(0x10ac, 0x3000), set(0x10b0, 0x4000);
+    set(0x1050, 0x10a0), set(0x1058, 0);
+}
+
+static void measure(size_t words, int busy, int turns) {
+    struct ehci hc;
+    uint32_t events;
+    lists();
     ehci_reset(&hc);
     ehci_write(&hc, 0x18, 0x1000);
     ehci_write(&hc, 0x00, 0x00080021);
     packets = 0;
     double began = now();
     for (int turn = 0; turn < turns; turn++) {
-        if (busy) {
-            set(0x10a0, 1), set(0x10a4, 1), set(0x10a8, 4096u << 16 | 0x0d80), set(0x10ac, 0x3000), set(0x10b0, 0x4000);
-            set(0x1050, 0x10a0), set(0x1058, 0);
-        }
+        if (busy)
+            refill();
         if (ehci_microframe_on(&hc, ram, words, bus, 0, &events) != EHCI_MADE)
             return;
     }
     printf("%zu bytes, %.0f packets a microframe: %.0f us\n", 4 * words, (double)packets / turns, (now() - began) / turns);
+}
+
+static void measure_events(size_t words, int turns) {
+    static struct ehci_whole hc;
+    unsigned long events = 0;
+    lists();
+    ehci_whole_reset(&hc);
+    ehci_whole_write(&hc, 0x18, 0x1000);
+    ehci_whole_write(&hc, 0x00, 0x00080021);
+    packets = 0;
+    double began = now();
+    for (int turn = 0; turn < turns; turn++) {
+        uint32_t kind;
+        refill();
+        while ((kind = ehci_step_on(&hc, ram, words, bus, 0)) < EHCI_END)
+            events++;
+        if (kind != EHCI_END)
+            return;
+        events++;
+    }
+    double took = now() - began;
+    printf("%zu bytes, %.0f packets a microframe, an event a call: %.0f us, %.1f us an event\n", 4 * words, (double)packets / turns, took / turns,
+           took / events);
 }
 
 int main(void) {
@@ -47,5 +77,7 @@ int main(void) {
     measure(8192, 1, 2000);
     measure(262144, 0, 200);
     measure(262144, 1, 100);
+    measure_events(8192, 1000);
+    measure_events(16777216, 1000);
     return 0;
 }
