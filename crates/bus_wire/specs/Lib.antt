@@ -7,3 +7,4 @@ pub mod Samples
 pub mod Seats
 pub mod WhoHeard
 pub mod Told
+pub mod Resets

@@ -7,6 +7,7 @@ ghost use Rattle.bus_wire.specs.Below.{below_at, enabled_ports, hears_at, asked_
 ghost use Rattle.bus_wire.specs.Bus.{begins_anew, begun_at};
 ghost use Rattle.bus_wire.specs.Fixed.{IsSeated};
 ghost use Rattle.bus_wire.specs.WhoHeard.{answer_sent};
+ghost use Rattle.endpoint_script.specs.Resets.{device_reset};
 
 use crate::asked::{Answerer, Asked, Losses};
 use crate::asking::{ask_device_at, ask_nobody};
@@ -16,7 +17,7 @@ use crate::who_heard::{WhoHeard, sent_before_answer, steps_later};
 use endpoint_script::Device;
 use hub_class::Hub;
 use std::marker::Model;
-use usb_base::{Ask, DevAddr, Reply, Speed, Wire};
+use usb_base::{Ask, DevAddr, EpName, Reply, Speed, Wire};
 
 /// The devices of a bus, and the bus below the hub that works now: as a `Wire` that of its translator. Contracts see a `Below`.
 #[derive(Drop)]
@@ -91,6 +92,15 @@ fn begin_devices(devices: &mut [Device], frindex: u16)
     }
 }
 
+/// The endpoint with this name is reset.
+fn reset_devices(devices: &mut [Device], name: &EpName)
+    ensures { devices.new ≡ map (device_reset name.now) devices.old }
+{
+    for device in devices.iter_mut() {
+        device.reset(name);
+    }
+}
+
 impl BelowHub {
     /// The devices of a bus, below no hub yet.
     pub fn new(
@@ -145,6 +155,17 @@ impl BelowHub {
         ensures { self.new ≡ record self.old { floor = record self.old.floor { devices = map (begun_at frindex) self.old.floor.devices } } }
     {
         begin_devices(self.devices.as_mut_slice(), frindex);
+    }
+
+    /// The endpoint with this name is reset.
+    pub fn reset(&mut self, name: &EpName)
+        ensures { self.new ≡ record self.old {
+          floor = record self.old.floor {
+            devices = map (device_reset name.now) self.old.floor.devices;
+          };
+        } }
+    {
+        reset_devices(self.devices.as_mut_slice(), name);
     }
 
     /// Asks the device at a place; `reply` becomes the answer that it sent, heard or not.

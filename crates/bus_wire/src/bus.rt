@@ -9,6 +9,9 @@ ghost use Rattle.bus_wire.specs.Bus.{stuff_of, hears_split, hears, asked_at, ask
 ghost use Rattle.bus_wire.specs.Fixed.{IsSeated};
 ghost use Rattle.bus_wire.specs.WhoHeard.{answer_sent};
 ghost use Rattle.bus_wire.specs.Told.{told_at, told_of, answer_told};
+ghost use Rattle.std.specs.Prelude.{map};
+ghost use Rattle.hub_class.specs.EndpointZero.{hub_reset};
+ghost use Rattle.bus_wire.specs.Resets.{bus_reset};
 
 use crate::asked::{Answerer, Asked, Losses};
 use crate::asking::{ask_hub_at, ask_nobody, ask_translator_at};
@@ -23,7 +26,7 @@ use hub_class::Hub;
 use script_types::Script;
 use std::alloc::Global;
 use std::marker::Model;
-use usb_base::{Ask, DevAddr, Memory, Reply, Split, Wire};
+use usb_base::{Ask, DevAddr, EpName, Memory, Reply, Split, Wire};
 
 /// The bus of a script: its devices and hubs, and the packets between them and the host controller. Contracts see what is fixed of it,
 /// `Fixed`, and what changes, `Bus`.
@@ -91,6 +94,15 @@ fn work_hubs(hubs: &mut [Hub], below: &mut BelowHub, frindex: u16)
     }
 }
 
+/// The endpoint with this name is reset, where it is one of a hub.
+fn reset_hubs(hubs: &mut [Hub], name: &EpName)
+    ensures { hubs.new ≡ map (hub_reset name.now) hubs.old }
+{
+    for hub in hubs.iter_mut() {
+        hub.reset(name);
+    }
+}
+
 impl UsbBus {
     /// The bus of a script, at the end of microframe 0.
     pub fn build(alloc: Global, script: &Script) -> Result<UsbBus, Memory>
@@ -135,6 +147,14 @@ impl UsbBus {
         self.hubs
             .iter()
             .find(|hub| hub.address().get() == addr.get())
+    }
+
+    /// The endpoint with this name is reset, as its halt is cleared (USB 2.0, 9.4.5). No packet is sent.
+    pub fn reset(&mut self, name: &EpName)
+        ensures { self.new ≡ record self.old { bus = bus_reset name.now self.old.bus } }
+    {
+        self.below.reset(name);
+        reset_hubs(self.hubs.as_mut_slice(), name);
     }
 
     /// The number of the next packet below a translator of the endpoint at a place, from 0; None exactly where there is no such place.

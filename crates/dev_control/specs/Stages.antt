@@ -5,6 +5,7 @@
 --     stage_row reply c ask out    what it does at an ask with these data bytes
 --     stages_reply, stages_after   what it answers, and what that leaves
 --     stages_acked reply c         what the host's acknowledgement of the data just sent leaves
+--     stages_reset c               what a reset of the endpoint leaves
 -- `reply` is the device's reply to the request under way, if it has one.
 use Rattle.std.specs.Prelude.{ℕ, ◌+◌, ◌-◌, ◌*◌, ◌==◌, Bool, true, false, ◌&&◌, ◌||◌, not, min, nat_le, nat_lt, List, [], length, take, drop, slice_index, Option, Some, None, if◌then◌else◌}
 use Rattle.usb_base.specs.declared.packets.Ask.{Ask}
@@ -245,3 +246,9 @@ acked_with _ _ c = c
 -- the host's ACK of the data just sent moves a read on to its next packet; that of a status packet changes nothing
 abbrev pub stages_acked : Option (List ℕ) → Stages → Stages
 stages_acked reply c = acked_with (stage_of reply c) c.request c
+
+-- ---- a reset
+
+-- A reset forgets the request under way (USB 2.0, 9.4.5); how often it acted stays, and so do the NAKs that are left.
+abbrev pub stages_reset : Stages → Stages
+stages_reset c = record c { request = None }

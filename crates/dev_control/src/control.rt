@@ -1,6 +1,6 @@
 ghost use Rattle.std.specs.Prelude.{◌≡◌, ℕ, ◌+◌, ◌≤◌, ◌<◌, ◌==◌, nat_lt, nat_le, length, take, if◌then◌else◌};
 ghost use Rattle.std.specs.Option.{option_copied, option_map};
-ghost use Rattle.dev_control.specs.Stages.{opened, token_of, data_pid, sequence_of, is_read, wanted_of, sent_of, has_packet, packet_at, read_stage, write_stage, stage_with, stage_at, stage_of, in_row, out_row, ping_row, setup_row, is_status, far_with, out_row_at, unless_nak, stage_row, packet_with, pid_with, row_reply, begun_with, moved_to, acted_on, after_stage_row, stages_reply, stages_after, stages_acked};
+ghost use Rattle.dev_control.specs.Stages.{opened, token_of, data_pid, sequence_of, is_read, wanted_of, sent_of, has_packet, packet_at, read_stage, write_stage, stage_with, stage_at, stage_of, in_row, out_row, ping_row, setup_row, is_status, far_with, out_row_at, unless_nak, stage_row, packet_with, pid_with, row_reply, begun_with, moved_to, acted_on, after_stage_row, stages_reply, stages_after, stages_acked, stages_reset};
 
 use crate::rows::{Sequence, Stage, StageRow, StageToken};
 use std::marker::Model;
@@ -228,6 +228,13 @@ impl ControlStages {
         ensures { result ≡ self.now.acted }
     {
         self.acted
+    }
+
+    /// It forgets the request under way.
+    pub fn reset(&mut self)
+        ensures { self.new ≡ stages_reset self.old }
+    {
+        self.request = None;
     }
 
     /// The stage at which the next token finds it, where `reply` is the device's reply to the request under way, if it has one.

@@ -1,5 +1,5 @@
 -- Lists of which a front part is over, and the packets and requests among items.
-use Rattle.std.proofs.Common.{◌≡◌, ℕ, zero, suc, ◌+◌, ◌<◌, Bool, List, [], ◌∷◌, ◌++◌, length, drop, take, map, get_or, set, subst, refl, ap, sym, ◌∙◌, arith, add-one, Option, Some, None}
+use Rattle.std.proofs.Common.{◌≡◌, ℕ, zero, suc, ◌+◌, ◌<◌, Bool, true, false, cond, List, [], ◌∷◌, ◌++◌, length, drop, take, map, get_or, set, subst, refl, ap, sym, ◌∙◌, arith, add-one, Option, Some, None}
 use Rattle.std.proofs.lemmas.Grind.{common_steps}
 use Rattle.std.proofs.lemmas.List.{take_more}
 use Rattle.std.proofs.lemmas.List.Elements.{filter_map-append}
@@ -9,6 +9,7 @@ use Rattle.std.specs.Option.{option_to_list}
 use Rattle.script_types.specs.declared.devices.Item.{Item}
 use Rattle.script_types.specs.declared.devices.Item.TheVariants.{Bytes, Nak, Nyet, Stall, Request, Epoch}
 use Rattle.endpoint_script.specs.Items.{rest_of, is_short, is_packet, packets_of}
+use Rattle.endpoint_script.specs.Resets.{is_epoch, next_epoch}
 
 -- one more is over
 pub rest_of_dropped : {A : Type 0} (xs : List A) (n : ℕ) → n < length xs → rest_of (drop n xs) ≡ drop (n + 1) xs
@@ -66,3 +67,18 @@ one_more_becomes f xs ys n x is h e =
     let inside : n < length xs = subst (λ m. n < m) (ap length is ∙ length-partly f xs n) h in
     let item : x ≡ get_or xs n x = e ∙ ap (λ zs. get_or zs n x) is ∙ get_or-partly f xs n x in
     rw (is, add-one n) (ap (λ y. set (map f (take n xs) ++ drop n xs) n (f y)) item ∙ set-partly f xs n x inside)
+
+-- ---- the next epoch
+
+-- it begins behind the first item, or behind a later one
+pub epoch_found : (items rest : List Item) (x : Item) → items ≡ x ∷ rest → is_epoch x ≡ true → next_epoch items ≡ rest
+unfolding next_epoch
+epoch_found items rest x is found = ap next_epoch is ∙ ap (λ b. cond b rest (next_epoch rest)) found
+
+pub epoch_later : (items rest : List Item) (x : Item) → items ≡ x ∷ rest → is_epoch x ≡ false → next_epoch items ≡ next_epoch rest
+unfolding next_epoch
+epoch_later items rest x is other = ap next_epoch is ∙ ap (λ b. cond b rest (next_epoch rest)) other
+
+pub epoch_none : (items : List Item) → items ≡ [] → next_epoch items ≡ []
+unfolding next_epoch
+epoch_none items is = ap next_epoch is

@@ -6,3 +6,4 @@ pub mod Streaming
 pub mod Device
 pub mod Places
 pub mod Worked
+pub mod Resets

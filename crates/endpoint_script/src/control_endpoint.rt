@@ -2,6 +2,7 @@ ghost use Rattle.std.specs.Prelude.{◌≡◌, ◌≤◌, length, ◌++◌, posi
 ghost use Rattle.std.specs.Option.{option_copied, option_to_list};
 ghost use Rattle.endpoint_script.specs.Items.{naks_of, request_in, requests_of};
 ghost use Rattle.endpoint_script.specs.Controlling.{controlling_at, has_setup, place_under, place_in, reply_at, reply_of, controlling_reply, controlling_answered, controlling_acked};
+ghost use Rattle.endpoint_script.specs.Resets.{controlling_reset};
 
 use dev_control::{ControlStages, Request, StageToken, token};
 use script_types::Item;
@@ -137,5 +138,13 @@ impl ControlEndpoint {
     {
         let reply = reply_at(&self.requests, self.place);
         self.stages.acked(reply);
+    }
+
+    /// The endpoint is reset: it forgets the request under way.
+    pub fn reset(&mut self)
+        ensures { self.new ≡ controlling_reset self.old }
+    {
+        self.stages.reset();
+        self.place = None;
     }
 }

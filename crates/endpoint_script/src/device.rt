@@ -2,6 +2,7 @@ ghost use Rattle.std.specs.Prelude.{◌≡◌, ◌≤◌, ◌<◌, length, map, 
 ghost use Rattle.std.specs.List.{list_all};
 ghost use Rattle.endpoint_script.specs.Items.{is_short};
 ghost use Rattle.endpoint_script.specs.Device.{is_scripted, is_scripted_endpoint, opened_endpoint, opening, begun, endpoint_begun, endpoint_asked, place_of_name, answer_of, answered, acked_by, taken_of, acted_of};
+ghost use Rattle.endpoint_script.specs.Resets.{device_reset};
 
 use crate::endpoint::Endpoint;
 use crate::places::Places;
@@ -144,6 +145,15 @@ impl Device {
     {
         if let Some(place) = self.place(ask) {
             self.endpoints[place].acked();
+        }
+    }
+
+    /// The endpoint with this name is reset, as its halt is cleared (USB 2.0, 9.4.5); where the device has none, nothing changes.
+    pub fn reset(&mut self, name: &EpName)
+        ensures { self.new ≡ device_reset name.now self.old }
+    {
+        if let Some(place) = self.place_of_name(name) {
+            self.endpoints[place].reset();
         }
     }
 

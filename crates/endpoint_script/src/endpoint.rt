@@ -1,5 +1,6 @@
 ghost use Rattle.std.specs.Prelude.{◌≡◌, ℕ, ◌≤◌, ◌<◌, ◌^◌, length, IfOk, IsTrue};
 ghost use Rattle.endpoint_script.specs.Device.{is_scripted_endpoint, opened_endpoint, endpoint_begun, part_reply, endpoint_answered, endpoint_acked, part_taken, part_acted, is_way, is_named};
+ghost use Rattle.endpoint_script.specs.Resets.{endpoint_reset};
 
 use crate::control_endpoint::ControlEndpoint;
 use crate::iso_sender::IsoSender;
@@ -98,6 +99,18 @@ impl Endpoint {
         match &mut self.part {
             Role::Sends(sender) => sender.acked(),
             Role::Controls(control) => control.acked(),
+            _ => {}
+        }
+    }
+
+    /// It is reset, as its halt is cleared (USB 2.0, 9.4.5).
+    pub fn reset(&mut self)
+        ensures { self.new ≡ endpoint_reset self.old }
+    {
+        match &mut self.part {
+            Role::Sends(sender) => sender.reset(),
+            Role::Takes(receiver) => receiver.reset(),
+            Role::Controls(control) => control.reset(),
             _ => {}
         }
     }

@@ -1,6 +1,7 @@
 ghost use Rattle.std.specs.Prelude.{◌≡◌, [], ◌∷◌, IfOk, IfSome, IsTrue, MatchOption};
 ghost use Rattle.std.specs.List.{list_all};
 ghost use Rattle.endpoint_script.specs.Items.{is_short, rest_of, nak_given};
+ghost use Rattle.endpoint_script.specs.Resets.{is_epoch, next_epoch};
 
 use script_types::Item;
 use std::alloc::{AllocError, Global};
@@ -21,6 +22,16 @@ fn copy_of(alloc: Global, item: &Item) -> Result<Item, AllocError>
             setup: *setup,
             bytes: ListOf::of(bytes.as_slice().to_vec(alloc)?),
         }),
+    }
+}
+
+/// Whether an epoch begins behind the item.
+fn is_epoch(item: &Item) -> bool
+    ensures { result ≡ is_epoch item.now }
+{
+    match item {
+        Item::Epoch => true,
+        _ => false,
     }
 }
 
@@ -91,5 +102,18 @@ impl ItemList {
             return;
         }
         self.items[self.next] = Item::Nak(n - 1);
+    }
+
+    /// The items behind the beginning of the next epoch are left, or none where no epoch follows.
+    pub fn begin_epoch(&mut self)
+        ensures { self.new ≡ next_epoch self.old }
+    {
+        while let Some(item) = self.first() {
+            let found = is_epoch(item);
+            self.advance();
+            if found {
+                return;
+            }
+        }
     }
 }

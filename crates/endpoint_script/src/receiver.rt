@@ -2,6 +2,7 @@ ghost use Rattle.std.specs.Prelude.{◌≡◌, ◌+◌, ◌≤◌, nat_le, lengt
 ghost use Rattle.std.specs.List.{list_all};
 ghost use Rattle.endpoint_script.specs.Items.{is_short, rest_of, nak_given};
 ghost use Rattle.endpoint_script.specs.Taking.{taking_at, next_row, out_row, ping_row, has_room, is_ping, taking_row, last_hand, took, after_taking_row, HasRoomIfTaken, taking_reply, taking_answered};
+ghost use Rattle.endpoint_script.specs.Resets.{taking_reset};
 
 use crate::item_list::ItemList;
 use crate::rows::TakeRow;
@@ -75,6 +76,14 @@ impl Receiver {
             TakeRow::Takes => self.take(out),
             TakeRow::TakesLast => self.take_last(speed, out),
         }
+    }
+
+    /// The endpoint is reset; what it took stays.
+    pub fn reset(&mut self)
+        ensures { self.new ≡ taking_reset self.old }
+    {
+        self.items.begin_epoch();
+        self.toggle = false;
     }
 
     fn row(&self, ask: &Ask, out: &[u8]) -> TakeRow

@@ -2,6 +2,7 @@ ghost use Rattle.std.specs.Prelude.{◌≡◌, IfOk, IsTrue};
 ghost use Rattle.std.specs.List.{list_all};
 ghost use Rattle.endpoint_script.specs.Items.{is_short};
 ghost use Rattle.endpoint_script.specs.Sending.{sending_at, sending_reply, sending_answered, sending_acked};
+ghost use Rattle.endpoint_script.specs.Resets.{sending_reset};
 
 use crate::item_list::ItemList;
 use dev_control::data_pid;
@@ -61,6 +62,14 @@ impl Sender {
             self.items.advance();
             self.toggle = !self.toggle;
         }
+    }
+
+    /// The endpoint is reset.
+    pub fn reset(&mut self)
+        ensures { self.new ≡ sending_reset self.old }
+    {
+        self.items.begin_epoch();
+        self.toggle = false;
     }
 
     fn refuse(&mut self) -> Reply

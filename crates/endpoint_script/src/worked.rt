@@ -4,8 +4,9 @@ ghost use Rattle.std.specs.Prelude.{◌≡◌, List, [], ◌∷◌};
 ghost use Rattle.usb_base.specs.declared.packets.Pid.TheVariants as Pids;
 ghost use Rattle.usb_base.specs.declared.packets.Speed.TheVariants.{High as AtHigh, Full as AtFull};
 ghost use Rattle.usb_base.specs.declared.packets.Way.TheVariants as Ways;
-ghost use Rattle.script_types.specs.declared.devices.Item.TheVariants.{Bytes as Data, Nak as Naks, Nyet as Last, Stall as Stalls};
+ghost use Rattle.script_types.specs.declared.devices.Item.TheVariants.{Bytes as Data, Nak as Naks, Nyet as Last, Stall as Stalls, Epoch as Parts};
 ghost use Rattle.endpoint_script.specs.Device.{taken_of, acted_of};
+ghost use Rattle.endpoint_script.specs.Resets.{next_epoch};
 ghost use Rattle.endpoint_script.specs.Worked.{Asks, Acks, Begins, replies, after, in0, in_ack, out0, out1, ping, setup, ack, nak, nyet, stall, silence, data0, data1, data2, name_of, sender, receiver, streamer, composite, request};
 
 /// An IN endpoint sends its packets in order, the next one only after the acknowledgement was heard, and NAK past the end.
@@ -22,6 +23,14 @@ pub fn naks_and_stall()
     ensures two { replies (sender (Naks 2 ∷ Data (1 ∷ []) ∷ [])) (in0 1 ∷ in0 1 ∷ in0 1 ∷ []) ≡ nak ∷ nak ∷ data0 (1 ∷ []) ∷ [] }
     ensures stays { replies (sender (Data (1 ∷ []) ∷ Stalls ∷ Data (2 ∷ []) ∷ [])) (in0 1 ∷ in_ack 1 ∷ in0 1 ∷ in_ack 1 ∷ in0 1 ∷ [])
         ≡ data0 (1 ∷ []) ∷ stall ∷ stall ∷ [] }
+{}
+
+/// A reset leaves what stands in the next epoch, and nothing where no epoch follows; before it an endpoint answers as past the end.
+#[tactic(auto, unfolding(crate::specs::Resets::next_epoch))]
+pub fn epochs_follow_resets()
+    ensures next { next_epoch (Data (1 ∷ []) ∷ Stalls ∷ Parts ∷ Data (2 ∷ []) ∷ Parts ∷ []) ≡ Data (2 ∷ []) ∷ Parts ∷ [] }
+    ensures none { next_epoch (Data (1 ∷ []) ∷ Stalls ∷ []) ≡ [] }
+    ensures before { replies (sender (Parts ∷ Data (1 ∷ []) ∷ [])) (in0 1 ∷ in_ack 1 ∷ in0 1 ∷ []) ≡ nak ∷ nak ∷ [] }
 {}
 
 /// An OUT endpoint takes each packet once: data with the toggle that it doesn't expect are acknowledged and dropped, whatever stands.

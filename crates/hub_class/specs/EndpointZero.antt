@@ -1,6 +1,7 @@
 -- Endpoint 0 of a hub: the stages of a control transfer over the requests that the hub knows (USB 2.0, 8.5.3 and 11.24).
 -- A reply is taken at the data stage; an effect is made once, when the request is acted on.
 use Rattle.std.specs.Prelude.{ℕ, ◌==◌, Bool, true, false, ◌&&◌, List, [], Option, Some, None, if◌then◌else◌}
+use Rattle.usb_base.specs.declared.endpoints.EpName.{EpName}
 use Rattle.usb_base.specs.declared.packets.Ask.{Ask}
 use Rattle.usb_base.specs.declared.packets.Reply.{Reply}
 use Rattle.usb_base.specs.declared.packets.Reply.TheVariants.{Silent}
@@ -9,7 +10,7 @@ use Rattle.dev_control.specs.declared.rows.StageRow.{StageRow}
 use Rattle.dev_control.specs.declared.rows.StageRow.TheVariants.{Acknowledges, Confirms}
 use Rattle.dev_control.specs.declared.rows.StageToken.{StageToken}
 use Rattle.dev_control.specs.declared.rows.StageToken.TheVariants.{Other}
-use Rattle.dev_control.specs.Stages.{token_of, setup_of, stage_row, stages_reply, stages_after, stages_acked}
+use Rattle.dev_control.specs.Stages.{token_of, setup_of, stage_row, stages_reply, stages_after, stages_acked, stages_reset}
 use Rattle.hub_ports.specs.declared.rows.HubReply.{HubReply}
 use Rattle.hub_ports.specs.declared.rows.HubReply.TheVariants.{Bytes, Done, Stall}
 use Rattle.hub_class.specs.HubContent.{HubContent}
@@ -68,3 +69,7 @@ hub_answered ask out h = if suits ask h then hub_answered_at ask out h else h
 -- the hub after the host's ACK of the data just sent
 abbrev pub hub_acked : Ask → HubContent → HubContent
 hub_acked ask h = if suits ask h then record h { control = stages_acked (reply_under h) h.control } else h
+
+-- the hub after a reset of the endpoint with this name (USB 2.0, 9.4.5), which is its own where it has the hub's address
+abbrev pub hub_reset : EpName → HubContent → HubContent
+hub_reset name h = if h.address == name.addr then record h { control = stages_reset h.control } else h

@@ -3,7 +3,7 @@ ghost use Rattle.dev_control.specs.Stages.{stages_reply};
 ghost use Rattle.hub_ports.specs.Ports.{is_enabled};
 ghost use Rattle.hub_class.specs.HubContent.{opening};
 ghost use Rattle.hub_class.specs.Requesting.{requested, request_at, request_answer, effect};
-ghost use Rattle.hub_class.specs.EndpointZero.{suits, reply_bytes, reply_under, acted_with, hub_reply, hub_answered, hub_answered_at, hub_acked};
+ghost use Rattle.hub_class.specs.EndpointZero.{suits, reply_bytes, reply_under, acted_with, hub_reply, hub_answered, hub_answered_at, hub_acked, hub_reset};
 ghost use Rattle.hub_class.specs.Translating.{transact_reply, transacted, HubWorks};
 
 use crate::endpoint_zero::{acting, bytes, is_token_pid};
@@ -13,7 +13,7 @@ use multi_tt::Translators;
 use script_types::HubText;
 use std::alloc::Global;
 use std::marker::Model;
-use usb_base::{Ask, DevAddr, Memory, Reply, Split, Wire};
+use usb_base::{Ask, DevAddr, EpName, Memory, Reply, Split, Wire};
 
 /// The maximum packet size of endpoint 0, in bytes.
 const PACKET: u16 = 64;
@@ -127,6 +127,16 @@ impl Hub {
         }
         let reply = self.reply_under();
         self.control.acked(bytes(&reply));
+    }
+
+    /// The endpoint with this name is reset, as its halt is cleared (USB 2.0, 9.4.5): where it is endpoint 0 of the hub, that forgets the
+    /// request under way.
+    pub fn reset(&mut self, name: &EpName)
+        ensures { self.new ≡ hub_reset name.now self.old }
+    {
+        if self.addr.get() == name.addr.get() {
+            self.control.reset();
+        }
     }
 
     /// How many requests its endpoint 0 acted on; it stays at 4,294,967,295 once it is there.
