@@ -1,0 +1,5 @@
+pub mod AtWork
+pub mod Clearing
+pub mod HubRequests
+pub mod JobOffers
+pub mod Jobs
