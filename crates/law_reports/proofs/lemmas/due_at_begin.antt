@@ -12,8 +12,10 @@ pub mod InFrames
 pub mod Moments
 pub mod Own
 pub mod Sampled
+pub mod Elsewhere
 pub mod SlotAhead
-pub mod SlotThere
+pub mod DescriptorThere
+pub mod DescriptorMoments
 pub mod BegunMoments
 pub mod Framed
 pub mod SlotStored

@@ -18,13 +18,13 @@ use Rattle.drv_table.specs.declared.content.Endpoint.{Endpoint}
 use Rattle.drv_table.specs.DriverContent.{DriverContent}
 use Rattle.hc_interrupt.specs.Turns.{microframe_of}
 use Rattle.claims_world.specs.DueAtBegin.{begun, IsUncancelled}
-use Rattle.claims_world.specs.SlotsAtBegin.{IsItdOf, IsSlotDueAtBegin}
+use Rattle.claims_world.specs.SlotsAtBegin.{IsDescriptorOfEndpoint, IsSlotDueAtBegin}
 use Rattle.claims_world.specs.Visits.{frame_in}
 
 pub record IsStoredFor (d : DriverContent) (e n f : ℕ) : Type 0 where
   pub endpoint : Endpoint
   pub here : slice_get d.endpoints e ≡ Some endpoint
-  pub of : IsItdOf d e n
+  pub of : IsDescriptorOfEndpoint d e n
   pub itd : (note_at d.periodic.notes of.transfer.first).split ≡ false
   pub frame : (note_at d.periodic.notes of.transfer.first).frame ≡ f
   pub older : (i first count : ℕ) → d.command ≡ Some (unfinished.Iso i first count) → of.number < first

@@ -7,7 +7,7 @@ ghost use Rattle.bus_world.specs.World.{controller_row};
 ghost use Rattle.law_world.specs.memory.MicrophoneSamples.{one_microphone, heard_at};
 ghost use Rattle.law_microframes.specs.due.slots.Samples.{due_at, due_slots};
 ghost use Rattle.claims_world.specs.DueAtBegin.{IsUncancelled};
-ghost use Rattle.claims_world.specs.SlotsAtBegin.{IsItdOf, IsSlotDueAtBegin};
+ghost use Rattle.claims_world.specs.SlotsAtBegin.{IsDescriptorOfEndpoint, IsSlotDueAtBegin};
 ghost use Rattle.claims_world.specs.Visits.{HasVisited, IsPastFrames, frame_in, is_held_now};
 ghost use Rattle.law_reports.specs.due_at_begin.Samples.{cancelled_microphone};
 ghost use Rattle.law_reports.specs.due_at_begin.Stored.{IsStoredFor};
@@ -16,7 +16,7 @@ ghost use Rattle.law_reports.specs.due_at_begin.Stored.{IsStoredFor};
 pub fn a_slot_is_due_at_begin()
     ensures begins { controller_row (due_at 0) ≡ Begin }
     ensures due { IsSlotDueAtBegin (due_at 1) 4160 }
-    ensures own { IsItdOf (due_at 1).driver 0 4160 }
+    ensures own { IsDescriptorOfEndpoint (due_at 1).driver 0 4160 }
 {}
 
 /// Once it is written back it isn't due any more.

@@ -20,7 +20,7 @@ use Rattle.claims_driver.specs.Leaving.{HasOwners}
 use Rattle.claims_driver.specs.Owners.{is_descriptor}
 use Rattle.claims_driver.specs.Unlinked.{led}
 use Rattle.claims_world.specs.DueAtBegin.{IsUncancelled}
-use Rattle.claims_world.specs.SlotsAtBegin.{IsItdOf}
+use Rattle.claims_world.specs.SlotsAtBegin.{IsDescriptorOfEndpoint}
 use Rattle.claims_world.specs.Visits.{begins}
 use Rattle.law_driver.proofs.lemmas.listed_members.Standing.{IsSeen, seen, IsReported, unlinks_reported, descriptor_block, standing_block}
 use Rattle.law_driver.proofs.lemmas.listed_members.Standing.{owns, one_number}
@@ -56,8 +56,8 @@ module _ (d : DriverContent) (has : HasOwners d) (listed : IsListed d) (c : Desc
   begins_there : n ≡ 32 * view.transfer.first
   begins_there = sym at ∙ ap (λ (b : ℕ). 32 * b) (standing_block d (Once c) standing ∙ view.block)
 
-  pub member_of_itd : IsItdOf d view.transfer.endpoint n
-  member_of_itd = record {
+  pub member_of_descriptor : IsDescriptorOfEndpoint d view.transfer.endpoint n
+  member_of_descriptor = record {
     number = standing.number;
     transfer = view.transfer;
     here = view.there;
@@ -69,7 +69,7 @@ module _ (d : DriverContent) (has : HasOwners d) (listed : IsListed d) (c : Desc
 
   -- ---- what the unfinished command unlinks is of a cancelled endpoint
 
-  module _ (e : ℕ) (of : IsItdOf d e n) (off : IsUncancelled d e) where
+  module _ (e : ℕ) (of : IsDescriptorOfEndpoint d e n) (off : IsUncancelled d e) where
     its : view.transfer ≡ of.transfer
     its =
         same_run d has standing.number of.number n view.transfer of.transfer view.there of.here view.sort of.sort
@@ -127,7 +127,7 @@ module _ (d : DriverContent) (has : HasOwners d) (listed : IsListed d) (c : Desc
 -- ---- an event of the driver
 
 module _ (w : World) (k : IsMixedWorld w) (c : Descriptor) (on : is_linked (led w.driver) (Once c) ≡ true) (n : ℕ)
-    (at : begins (Once c) ≡ n) (e : ℕ) (of : IsItdOf w.driver e n) (off : IsUncancelled w.driver e)
+    (at : begins (Once c) ≡ n) (e : ℕ) (of : IsDescriptorOfEndpoint w.driver e n) (off : IsUncancelled w.driver e)
     (untold : of.transfer.reported ≡ false) where
   has : HasOwners w.driver
   has = k.mixed.now.framed.place.sound.owners

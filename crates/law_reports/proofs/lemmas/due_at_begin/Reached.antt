@@ -1,6 +1,6 @@
--- The controller can come to the queue head of an interrupt endpoint in its frames, by the links of each of them, and to an iTD by those of
--- its frame (EHCI 1.0, 3.1, 4.4 and 4.6).
-use Rattle.std.proofs.Common.{◌≡◌, ℕ, ◌+◌, ◌*◌, ◌<◌, true, Option, Some, ap, refl, sym, subst, ◌∙◌, inr}
+-- The controller can come to the queue head of an interrupt endpoint in its frames, by the links of each of them, and to an isochronous
+-- descriptor by those of its frame (EHCI 1.0, 3.1, 4.4 and 4.6).
+use Rattle.std.proofs.Common.{◌≡◌, ℕ, ◌+◌, ◌*◌, ◌<◌, Bool, true, false, Option, Some, ap, refl, sym, subst, ◌∙◌, inr}
 use Rattle.std.proofs.lemmas.Option.{same_Some}
 use Rattle.law_common.proofs.Options.{none_some}
 use Rattle.word_mem.specs.Memory.{word_at}
@@ -18,12 +18,12 @@ use Rattle.claims_base.specs.Controller.{opening_base}
 use Rattle.claims_world.specs.Coming.{IsInItsFrames}
 use Rattle.claims_world.specs.Reach.{Reached, QueueAt, ItdAt, SitdAt, FstnAt, leads_to, element_at, Reaches}
 use Rattle.claims_world.specs.Visits.{name_of, next_of, IsLedTo, is_there, leads_on, IsInChain}
-use Rattle.law_structures.specs.lent_structures.Structures.{StructureSets, Structure, QueueHead, Isochronous}
+use Rattle.law_structures.specs.lent_structures.Structures.{StructureSets, Structure, QueueHead, Isochronous, SplitIsochronous}
 use Rattle.law_structures.proofs.lemmas.lent_structures.Reading.{itd_read_there, sitd_read_there}
 use Rattle.law_frames.specs.Met.{Kind, AQueue, AnItd, ASitd, IsMetItd, IsMetSitd}
 use Rattle.law_controller.specs.frame_control.Both.{RunsBoth}
 use Rattle.law_descriptors.specs.Both.{both}
-use Rattle.law_descriptors.specs.Meeting.{met}
+use Rattle.law_descriptors.specs.Meeting.{kind_of_descriptor, met}
 use Rattle.bus_world.specs.World.{World, controller_parts}
 use Rattle.law_world.specs.memory.Mixed.{Standing, IsMixedAt, IsMixedWorld}
 use Rattle.law_world.proofs.lemmas.memory.WaysThere.{IsToldQueue, queue_told, told, told_read}
@@ -32,6 +32,7 @@ use Rattle.law_microframes.proofs.lemmas.due.Coming.{its_frames_lead}
 use Rattle.law_microframes.proofs.lemmas.due.FetchedKinds.{begins_there, its_member}
 use Rattle.law_microframes.proofs.lemmas.due.Linked.{queue_met}
 use Rattle.itd_sitd.specs.declared.itd.Itd.{Itd}
+use Rattle.itd_sitd.specs.declared.sitd.Sitd.{Sitd}
 use Rattle.link_words.specs.declared.kinds.Link.TheVariants as links
 use Rattle.claims_world.specs.Reach as reach
 
@@ -43,6 +44,14 @@ not_sitd is = cc
 
 itd_or_sitd : ◌≡◌ {A = Option Kind} (Some AnItd) (Some ASitd) → ⊥
 itd_or_sitd is = cc
+
+no_split : (q : Qh) (v : Sitd) → ◌≡◌ {A = Option Structure} (Some (QueueHead q)) (Some (SplitIsochronous v)) → ⊥
+no_split q v is = cc
+
+-- what a descriptor is that is a siTD, or none
+abbrev pub structure_at : Bool → ℕ → Reached
+structure_at true n = SitdAt n
+structure_at false n = ItdAt n
 
 no_queue : (q : Qh) (v : Itd) → ◌≡◌ {A = Option Structure} (Some (QueueHead q)) (Some (Isochronous v)) → ⊥
 no_queue q v is = cc
@@ -143,8 +152,44 @@ module _ (s : Standing) (w : World) (k : IsMixedAt s w) (n : ℕ) where
     itd_there (links.Fstn a) is way =
         absurd (told opening_base s.member (met w.driver s.recent) all s.hand s.frame c runs (FstnAt a) (way (FstnAt a) refl))
 
-    pub itd_reached : (f : ℕ) → f < 1024 → IsInChain w f n → Reaches (controller_parts w) (ItdAt n)
+    itd_reached : (f : ℕ) → f < 1024 → IsInChain w f n → Reaches (controller_parts w) (ItdAt n)
     itd_reached = chain_leads (ItdAt n) itd_there
+
+  module _ (on : met w.driver s.recent n ≡ Some ASitd) where
+    its_sitd : IsMetSitd (met w.driver s.recent) n (both s.descs s.parts n)
+    its_sitd = runs.members n ASitd on
+
+    sitd_there : (l : Link) → name_of l ≡ Some n → Leads l → Reaches (controller_parts w) (SitdAt n)
+    sitd_there links.End is way = absurd (none_some n is)
+    sitd_there (links.Itd a) is way =
+        absurd (itd_or_sitd (sym (itd_at a (way (ItdAt a) refl)) ∙ ap (met w.driver s.recent) (same_Some a n is) ∙ on))
+    sitd_there (links.Qh a) is way =
+        let x = queue_at a (way (QueueAt a) refl) in
+        absurd (no_split x.part_is.queue its_sitd.sitd
+        (sym x.part_is.here ∙ ap (λ (i : ℕ). both s.descs s.parts i i) (same_Some a n is) ∙ its_sitd.here))
+    sitd_there (links.Sitd a) is way =
+        subst (λ (i : ℕ). Reaches (controller_parts w) (SitdAt i)) (same_Some a n is) (way (SitdAt a) refl)
+    sitd_there (links.Fstn a) is way =
+        absurd (told opening_base s.member (met w.driver s.recent) all s.hand s.frame c runs (FstnAt a) (way (FstnAt a) refl))
+
+    sitd_reached : (f : ℕ) → f < 1024 → IsInChain w f n → Reaches (controller_parts w) (SitdAt n)
+    sitd_reached = chain_leads (SitdAt n) sitd_there
+
+  pub descriptor_reached : (split : Bool) → met w.driver s.recent n ≡ Some (kind_of_descriptor split) → (f : ℕ) → f < 1024
+      → IsInChain w f n → Reaches (controller_parts w) (structure_at split n)
+  descriptor_reached true on = sitd_reached on
+  descriptor_reached false on = itd_reached on
+
+-- ---- an isochronous descriptor to which the controller can come
+
+pub descriptor_met : (w : World) (k : IsMixedWorld w) (n : ℕ) (split : Bool) → Reaches (controller_parts w) (structure_at split n)
+    → met w.driver k.standing.recent n ≡ Some (kind_of_descriptor split)
+descriptor_met w k n true way =
+    told opening_base k.standing.member (met w.driver k.standing.recent) (both k.standing.descs k.standing.parts) k.standing.hand
+    k.standing.frame (controller_parts w) k.mixed.now.framed.runs (SitdAt n) way
+descriptor_met w k n false way =
+    told opening_base k.standing.member (met w.driver k.standing.recent) (both k.standing.descs k.standing.parts) k.standing.hand
+    k.standing.frame (controller_parts w) k.mixed.now.framed.runs (ItdAt n) way
 
 -- ---- the queue head of an endpoint in its frames
 

@@ -1,5 +1,5 @@
 -- The word of a slot that is active stays so while no event of the controller is at its iTD (EHCI 1.0, 3.3.2, 4.4, 4.6 and 4.7.1).
-use Rattle.std.proofs.Common.{◌≡◌, ◌≢◌, ℕ, suc, ◌+◌, ◌*◌, ◌%◌, ◌<◌, true, List, get_or, Option, Some, None, ap, refl, sym, subst, ◌∙◌}
+use Rattle.std.proofs.Common.{◌≡◌, ◌≢◌, ℕ, suc, ◌+◌, ◌*◌, ◌%◌, ◌<◌, true, false, List, get_or, Option, Some, None, ap, refl, sym, ◌∙◌}
 use Rattle.std.proofs.Common.{⊎_elim, arith}
 use Rattle.std.proofs.lemmas.Bool.{cases_eq}
 use Rattle.std.proofs.lemmas.Option.{same_Some}
@@ -17,42 +17,27 @@ use Rattle.itd_sitd.specs.Itd.{slot_of, itd_words}
 use Rattle.itd_sitd.proofs.ItdLaws.{itd_read-words, itd_read-slot}
 use Rattle.mem_queues.specs.Structures.{queue_head_at_address}
 use Rattle.mem_descriptors.specs.Descriptors.{itd_at_address, sitd_at_address}
-use Rattle.async_walk.specs.declared.state.WalkStep.{WalkStep}
-use Rattle.async_walk.specs.declared.state.WalkStep.TheVariants as steps
-use Rattle.periodic_walk.specs.declared.chain.ChainRow.{ChainRow}
 use Rattle.periodic_walk.specs.declared.chain.ChainRow.TheVariants as chains
-use Rattle.periodic_walk.specs.declared.state.Hand.{Hand}
-use Rattle.periodic_walk.specs.Chain.{chain_row, chain_walk, queue_fetch, itd_fetch, sitd_fetch}
-use Rattle.periodic_walk.specs.Place.{FramePlace, HasEffect}
-use Rattle.periodic_walk.specs.Rows.{step_of, effect_at}
+use Rattle.periodic_walk.specs.Chain.{chain_row, queue_fetch, itd_fetch, sitd_fetch}
 use Rattle.periodic_walk.specs.Walk.{held_address}
-use Rattle.hc_core.specs.declared.controller.ControllerRow.{ControllerRow}
 use Rattle.hc_core.specs.declared.controller.ControllerRow.TheVariants as rows
-use Rattle.hc_core.specs.Controller.{frame_place, HasRow, WalksFrame}
 use Rattle.bus_wire.specs.Bus.{Fixed}
 use Rattle.bus_world.specs.World.{World, controller_parts, controller_row, controller_next}
 use Rattle.claims_base.specs.Controller.{opening_base}
 use Rattle.claims_world.specs.Owners.{IsControllers, of_slot, LeavesControllers}
 use Rattle.claims_world.specs.Reach.{Reaches, ItdAt}
 use Rattle.claims_world.specs.Visits.{fetched_by}
-use Rattle.law_structures.specs.lent_structures.Structures.{StructureSets, Structures, Isochronous, HoldsIsochronous}
+use Rattle.law_structures.specs.lent_structures.Structures.{Isochronous, HoldsIsochronous}
 use Rattle.law_structures.proofs.lemmas.lent_structures.Reading.{itd_read_there}
 use Rattle.law_frames.specs.Met.{Kind, AQueue, AnItd, ASitd, IsMetItd, LeadsTo}
-use Rattle.law_frames.specs.Frame.{IsFrameWalk, IsFrame}
-use Rattle.law_frames.specs.FrameEffects.{FrameHappens, FrameEffect, fetches, passes, ends, takes as takes_one, makes, writes}
-use Rattle.law_frames.specs.FrameHand.{frame_held}
-use Rattle.law_frames.proofs.Walking.{event_happens}
 use Rattle.law_controller.specs.frame_control.Both.{RunsBoth}
 use Rattle.law_descriptors.specs.Both.{both}
 use Rattle.law_descriptors.specs.Meeting.{met}
-use Rattle.law_world.specs.steps.Streaming.{begins_by, transacts_by, wired}
-use Rattle.law_world.specs.memory.Mixed.{Standing, IsMixedWorld}
-use Rattle.law_world.proofs.lemmas.memory.WaysThere.{told}
-use Rattle.law_world.proofs.lemmas.steps.StreamTurning.{world_has_row}
-use Rattle.law_world.proofs.lemmas.steps.lemmas.world_bytes.Hearing.{a_bus_of_bytes_is_heard_as_bytes}
-use Rattle.law_microframes.proofs.lemmas.due.Turning.{in_periodic}
-use Rattle.law_reports.proofs.lemmas.due_at_begin.Apart.{effect_leaves, effect_goes}
-use Rattle.law_reports.proofs.lemmas.due_at_begin.Walked.{fetched_hand}
+use Rattle.law_world.specs.memory.Mixed.{IsMixedWorld}
+use Rattle.law_microframes.specs.visits.OneDescriptor.{IsActiveSome}
+use Rattle.law_microframes.proofs.lemmas.visits.OneDescriptorMet.{met_is_active}
+use Rattle.law_reports.proofs.lemmas.due_at_begin.Reached.{descriptor_met}
+use Rattle.law_reports.proofs.lemmas.due_at_begin.Elsewhere.{walk, holds_then}
 
 -- the word of microframe u of the iTD at n is active
 abbrev pub IsActiveThere : Mem → ℕ → ℕ → Type 0
@@ -74,13 +59,8 @@ module _ (w : World) (k : IsMixedWorld w) (n : ℕ) (way : Reaches (controller_p
       k.standing.hand k.standing.frame (controller_parts w)
   runs = k.mixed.now.framed.runs
 
-  pub met_there : met w.driver k.standing.recent n ≡ Some AnItd
-  met_there =
-      told opening_base k.standing.member (met w.driver k.standing.recent) (both k.standing.descs k.standing.parts) k.standing.hand
-      k.standing.frame (controller_parts w) k.mixed.now.framed.runs (ItdAt n) way
-
   pub its_part : IsMetItd (met w.driver k.standing.recent) n (both k.standing.descs k.standing.parts n)
-  its_part = runs.members n AnItd met_there
+  its_part = runs.members n AnItd (descriptor_met w k n false way)
 
   pub its_words : HoldsIsochronous w.memory n its_part.itd
   its_words = runs.ring.tells.each n n (Isochronous its_part.itd) its_part.here
@@ -114,17 +94,20 @@ module _ (w : World) (k : IsMixedWorld w) (n : ℕ) (way : Reaches (controller_p
       (cases_eq (word_at later (n + (4 + 4 * u))) (word_at w.memory (n + (4 + 4 * u)))) in
       ap (λ (x : ℕ). (slot_at x).active) same ∙ on
 
+  pub active_some : (u : ℕ) → u < 8 → IsActiveThere w.memory n u → IsActiveSome w.driver w.memory n
+  active_some u few on = met_is_active k.standing w n u its_part.itd k.mixed its_part.here few (active_there u few on)
+
 -- ---- what the walk fetches there
 
-itd_at : (a : ℕ) (o : Option Itd) (n : ℕ) → fetched_by (itd_fetch a o) ≡ Some n → a ≡ n
+pub itd_at : (a : ℕ) (o : Option Itd) (n : ℕ) → fetched_by (itd_fetch a o) ≡ Some n → a ≡ n
 itd_at a None n is = absurd (none_some n is)
 itd_at a (Some v) n is = same_Some a n is
 
-queue_at : (a : ℕ) (o : Option Qh) (n : ℕ) → fetched_by (queue_fetch a o) ≡ Some n → a ≡ n
+pub queue_at : (a : ℕ) (o : Option Qh) (n : ℕ) → fetched_by (queue_fetch a o) ≡ Some n → a ≡ n
 queue_at a None n is = absurd (none_some n is)
 queue_at a (Some v) n is = same_Some a n is
 
-sitd_at : (a : ℕ) (o : Option Sitd) (n : ℕ) → fetched_by (sitd_fetch a o) ≡ Some n → a ≡ n
+pub sitd_at : (a : ℕ) (o : Option Sitd) (n : ℕ) → fetched_by (sitd_fetch a o) ≡ Some n → a ≡ n
 sitd_at a None n is = absurd (none_some n is)
 sitd_at a (Some v) n is = same_Some a n is
 
@@ -149,101 +132,16 @@ fetched_itd_there m met_as (links.Fstn a) n v leads on read is = absurd (none_so
 
 module _ (fixed : Fixed) (w : World) (k : IsMixedWorld w) (row : controller_row w ≡ rows.Frame) (n : ℕ)
     (way : Reaches (controller_parts w) (ItdAt n)) where
-  abbrev s : Standing
-  s = k.standing
-
-  abbrev new : World
-  new = controller_next fixed w
-
-  abbrev all : StructureSets
-  all = both k.standing.descs k.standing.parts
-
-  walk : IsFrameWalk (met w.driver k.standing.recent) (both k.standing.descs k.standing.parts) k.standing.frame
-      (frame_place (controller_parts w))
-  walk = k.mixed.now.framed.runs.walk (in_periodic fixed w row)
-
-  frame : IsFrame (met w.driver k.standing.recent) (both k.standing.descs k.standing.parts) k.standing.frame
-      (frame_place (controller_parts w))
-  frame = record { tells = k.mixed.now.framed.runs.ring.tells; members = k.mixed.now.framed.runs.members; walk = walk }
-
-  walks : WalksFrame transacts_by (controller_parts w) (wired fixed w) (controller_parts (controller_next fixed w))
-      (wired fixed (controller_next fixed w))
-  walks =
-      subst (λ (r : ControllerRow). HasRow begins_by transacts_by r (controller_parts w) (wired fixed w)
-      (controller_parts (controller_next fixed w)) (wired fixed (controller_next fixed w))) row (world_has_row fixed w)
-
-  happens : FrameHappens transacts_by (met w.driver k.standing.recent) (both k.standing.descs k.standing.parts) k.standing.frame
-      (wired fixed w) (wired fixed (controller_next fixed w)) (frame_place (controller_parts w))
-      (frame_place (controller_parts (controller_next fixed w))) (step_of (frame_place (controller_parts w)))
-  happens =
-      event_happens transacts_by (met w.driver s.recent) all s.frame (frame_place (controller_parts w)) (wired fixed w)
-      (frame_place (controller_parts (controller_next fixed w))) (wired fixed (controller_next fixed w)) frame
-      (a_bus_of_bytes_is_heard_as_bytes fixed w k.mixed.bytes (wired fixed (controller_next fixed w))) walks.walked
-
   pub fetched_there : fetched_by (chain_row w.memory w.control.frame.cursor) ≡ Some n
       → chain_row w.memory w.control.frame.cursor ≡ chains.Itd n (its_part w k n way).itd
   fetched_there is =
-      fetched_itd_there w.memory (met w.driver s.recent) w.control.frame.cursor n (its_part w k n way).itd walk.cursor
-      (met_there w k n way) (its_read w k n way) is
+      fetched_itd_there w.memory (met w.driver k.standing.recent) w.control.frame.cursor n (its_part w k n way).itd
+      (walk fixed w k row n).cursor (descriptor_met w k n false way) (its_read w k n way) is
 
-  module _ (apart : (a : ℕ) → held_address w.control.frame.hand ≡ Some a → n ≢ a) where
-    apart_frame : (a : ℕ) → held_address (frame_held k.standing.frame) ≡ Some a → n ≢ a
-    apart_frame a is = apart a (ap held_address walk.held ∙ is)
-
-    leaves : happens.now n ≡ both k.standing.descs k.standing.parts n
-    leaves =
-        effect_leaves transacts_by all w.control.frame s.frame (wired fixed w) (wired fixed new) happens.now happens.later n apart_frame
-        (step_of (frame_place (controller_parts w))) happens.effect
-
-    words_then : HoldsIsochronous (controller_next fixed w).memory n (its_part w k n way).itd
-    words_then =
-        happens.frame.tells.each n n (Isochronous (its_part w k n way).itd)
-        (ap (λ (part : Structures). part n) leaves ∙ (its_part w k n way).here)
-
-    pub walked_active : (u : ℕ) → u < 8 → IsActiveThere w.memory n u → IsActiveThere (controller_next fixed w).memory n u
-    walked_active u few on =
-        ap (λ (x : ItdSlot). x.active) (slot_there new.memory n u (its_part w k n way).itd words_then few)
-        ∙ active_there w k n way u few on
-
-    -- ---- what it leaves in hand
-
-    hand_is : w.control.frame.hand ≡ None
-        → (controller_next fixed w).control.frame.hand ≡ (chain_walk (chain_row w.memory w.control.frame.cursor) w.control.frame).hand
-    hand_is none =
-        let made : HasEffect transacts_by (effect_at (frame_place (controller_parts w)) None) (wired fixed w)
-        (frame_place (controller_parts new)) (wired fixed new) =
-        subst (λ (o : Option Hand). HasEffect transacts_by (effect_at (frame_place (controller_parts w)) o) (wired fixed w)
-        (frame_place (controller_parts (controller_next fixed w))) (wired fixed (controller_next fixed w))) none walks.walked in
-        ap (λ (v : FramePlace). v.walk.hand) made.0
-
-    by_chain : w.control.frame.hand ≡ None → (fetched_by (chain_row w.memory w.control.frame.cursor) ≡ Some n → ⊥) → (a : ℕ)
-        → held_address (controller_next fixed w).control.frame.hand ≡ Some a → n ≢ a
-    by_chain none off a is same =
-        off (sym (ap held_address (hand_is none) ∙ fetched_hand (chain_row w.memory w.control.frame.cursor) w.control.frame) ∙ is
-        ∙ ap Some (sym same))
-
-    by_hand : (step : WalkStep) → step ≢ steps.Fetch
-        → FrameEffect transacts_by (both k.standing.descs k.standing.parts) w.control.frame k.standing.frame (wired fixed w)
-        (wired fixed (controller_next fixed w)) happens.now happens.later step → (a : ℕ)
-        → held_address (controller_next fixed w).control.frame.hand ≡ Some a → n ≢ a
-    by_hand step other effect a is =
-        effect_goes transacts_by all w.control.frame s.frame (wired fixed w) (wired fixed new) happens.now happens.later n apart_frame step
-        effect other a
-        (sym (ap held_address happens.frame.walk.held) ∙ is)
-
-    goes_apart : (step : WalkStep)
-        → FrameEffect transacts_by (both k.standing.descs k.standing.parts) w.control.frame k.standing.frame (wired fixed w)
-        (wired fixed (controller_next fixed w)) happens.now happens.later step
-        → (w.control.frame.hand ≡ None → fetched_by (chain_row w.memory w.control.frame.cursor) ≡ Some n → ⊥) → (a : ℕ)
-        → held_address (controller_next fixed w).control.frame.hand ≡ Some a → n ≢ a
-    goes_apart _ (fetches none r same quiet) off a is =
-        let held : w.control.frame.hand ≡ None = walk.held ∙ ap frame_held none in by_chain held (off held) a is
-    goes_apart _ (passes r nothing same quiet) off a is = by_hand steps.Skip (λ never. cc never) (passes r nothing same quiet) a is
-    goes_apart _ (ends none nothing same quiet) off a is = by_hand steps.Ended (λ never. cc never) (ends none nothing same quiet) a is
-    goes_apart _ (takes_one r quiet) off a is = by_hand steps.Advance (λ never. cc never) (takes_one r quiet) a is
-    goes_apart _ (makes r same) off a is = by_hand steps.Transact (λ never. cc never) (makes r same) a is
-    goes_apart _ (writes r quiet) off a is = by_hand steps.WriteBack (λ never. cc never) (writes r quiet) a is
-
-    pub slot_apart_then : (w.control.frame.hand ≡ None → fetched_by (chain_row w.memory w.control.frame.cursor) ≡ Some n → ⊥) → (a : ℕ)
-        → held_address (controller_next fixed w).control.frame.hand ≡ Some a → n ≢ a
-    slot_apart_then off a is = goes_apart (step_of (frame_place (controller_parts w))) happens.effect off a is
+  pub walked_active : ((a : ℕ) → held_address w.control.frame.hand ≡ Some a → n ≢ a) → (u : ℕ) → u < 8 → IsActiveThere w.memory n u
+      → IsActiveThere (controller_next fixed w).memory n u
+  walked_active apart u few on =
+      let p = its_part w k n way in
+      ap (λ (x : ItdSlot). x.active) (slot_there (controller_next fixed w).memory n u p.itd
+      (holds_then fixed w k row n apart (Isochronous p.itd) p.here) few)
+      ∙ active_there w k n way u few on

@@ -33,7 +33,7 @@ use Rattle.claims_world.specs.Carried.{carried_from}
 use Rattle.claims_world.specs.DueAtBegin.{IsUncancelled}
 use Rattle.claims_world.specs.Visits.{HasVisited}
 use Rattle.law_microframes.specs.due.slots.Samples.{due_at, due_slots}
-use Rattle.claims_world.specs.SlotsAtBegin.{IsItdOf, IsSlotDueAtBegin}
+use Rattle.claims_world.specs.SlotsAtBegin.{IsDescriptorOfEndpoint, IsSlotDueAtBegin}
 use Rattle.law_world.specs.memory.MicrophoneSamples.{heard_at}
 use Rattle.law_reports.specs.due_at_begin.Samples.{cancelled_microphone}
 use Rattle.law_reports.specs.due_at_begin.Stored.{IsStoredFor}
@@ -70,7 +70,7 @@ its_slot v read =
 pub done_isnt_due : IsSlotDueAtBegin (due_at 4) 4160 → ⊥
 done_isnt_due d = true≢false (sym d.active ∙ its_slot d.itd d.read)
 
-pub slot_is_its_own : IsItdOf (due_at 1).driver 0 4160
+pub slot_is_its_own : IsDescriptorOfEndpoint (due_at 1).driver 0 4160
 unfolding ticks lowest_run filled words_in with_words_in store_words lend_runs qh_words all_descriptors with_frames
     linked_descriptors itd_words itd_bad itd_at itd_read slot_word slot_at link_word link_read first_bad_bit slots_before predecessors
     frames word_after before_the behind_the fetched_itd after_in itd_written places all_reached stored

@@ -1,7 +1,7 @@
 -- An iTD that is stored for a frame, of an endpoint that isn't cancelled, is linked in that frame; so its slot is due where it is active
 -- (EHCI 1.0, 3.1, 4.6 and 4.7.1).
 use Rattle.std.proofs.Common.{◌≡◌, ◌≢◌, ℕ, ◌*◌, ◌/◌, ◌<◌, Bool, true, false, not, ◌&&◌, ◌==◌, slice_get, Option, Some, None}
-use Rattle.std.proofs.Common.{nat_lt, option_map, ⊎_elim, inr, ap, refl, sym, ◌∙◌}
+use Rattle.std.proofs.Common.{nat_lt, option_map, inr, ap, refl, sym, ◌∙◌}
 use Rattle.std.proofs.lemmas.Bool.{true≢false, false≢true, lt-ltb, ne_eqb, or_left}
 use Rattle.usb_base.specs.declared.packets.EpKind.{EpKind}
 use Rattle.usb_base.specs.declared.packets.EpKind.TheVariants as kinds
@@ -26,7 +26,8 @@ use Rattle.mem_descriptors.specs.Descriptors.{itd_at_address}
 use Rattle.bus_world.specs.Budgets.{moment}
 use Rattle.bus_world.specs.World.{World, controller_parts}
 use Rattle.claims_world.specs.DueAtBegin.{IsUncancelled}
-use Rattle.claims_world.specs.SlotsAtBegin.{IsLinkedItd, IsSlotDueAtBegin}
+use Rattle.claims_world.specs.Reach.{ItdAt}
+use Rattle.claims_world.specs.SlotsAtBegin.{IsLinkedAs, IsSlotDueAtBegin}
 use Rattle.claims_world.specs.Visits.{frame_in}
 use Rattle.law_driver.proofs.lemmas.listed_members.Standing.{descriptor_block}
 use Rattle.law_driver.proofs.lemmas.listed_members.Unlinks.{placed_here}
@@ -36,7 +37,7 @@ use Rattle.law_world.proofs.lemmas.memory.Together.{texts_stay_mixed}
 use Rattle.law_world.proofs.lemmas.memory.lemmas.framed_memory.Now.{now_has_frames}
 use Rattle.law_microframes.proofs.lemmas.due.Linked.{is_led_to}
 use Rattle.law_reports.specs.due_at_begin.Stored.{IsStoredFor, TextsHaveStoredSlotsDue}
-use Rattle.law_reports.proofs.lemmas.due_at_begin.SlotThere.{IsItsMember, linked_there}
+use Rattle.law_reports.proofs.lemmas.due_at_begin.DescriptorThere.{IsItsMember, linked_there}
 use Rattle.law_reports.proofs.lemmas.due_at_begin.BegunMoments.{so_as_begun}
 
 iso_periodic : (kind : EpKind) → is_iso kind ≡ true → is_periodic kind ≡ true
@@ -126,17 +127,17 @@ module _ (w : World) (k : IsMixedWorld w) (e n : ℕ) (st : IsStoredFor w.driver
   block : c.id / 32 ≡ st.of.transfer.first
   block = descriptor_block d.periodic y.first
 
-  member : IsItsMember w n
+  member : IsItsMember false w n
   member = record {
     descriptor = c;
     on = is_led_to w.memory w.driver frames (Once c) linked st.idle;
     at = ap (λ (b : ℕ). 32 * b) block ∙ sym st.of.at;
     frame = st.frame;
-    split = ap (λ (b : ℕ). (note_at d.periodic.notes b).split) block ∙ st.itd;
+    its_split = ap (λ (b : ℕ). (note_at d.periodic.notes b).split) block ∙ st.itd;
   }
 
-  pub stored_is_linked : IsLinkedItd w n
-  stored_is_linked = linked_there w k n member e st.of off
+  pub stored_is_linked : IsLinkedAs ItdAt w n
+  stored_is_linked = linked_there false w k n member e st.of off
 
 -- ---- as each microframe begins
 

@@ -1,6 +1,6 @@
--- An iTD that is linked in the frame of the microframe, and of which a slot is active, is so after an event of the driver and after a
--- command, while its endpoint isn't cancelled; and an event of the controller that begins no microframe leaves it there (EHCI 1.0, 3.1, 3.3
--- and 4.6).
+-- An isochronous descriptor that is linked in the frame of the microframe, and of which something is active, is so after an event of the
+-- driver and after a command, while its endpoint isn't cancelled; and an event of the controller that begins no microframe leaves it there
+-- (EHCI 1.0, 3.1, 3.3, 3.4 and 4.6).
 use Rattle.std.proofs.Common.{◌≡◌, ◌≢◌, ℕ, zero, suc, ◌*◌, ◌/◌, ◌<◌, Bool, true, false, List, [], ◌∷◌, Option, Some, ap}
 use Rattle.std.proofs.Common.{refl, sym, subst, ◌∙◌, arith}
 use Rattle.std.proofs.lemmas.Bool.{eqb-true}
@@ -33,14 +33,14 @@ use Rattle.bus_wire.specs.Bus.{Fixed}
 use Rattle.bus_world.specs.Orders.{Left, Events, Microframes, Answer, Command, Plugs, tick_at}
 use Rattle.bus_world.specs.World.{World, driver_parts, driver_next, controller_next, commanded, commanded_by, name_in}
 use Rattle.claims_world.specs.DueAtBegin.{IsUncancelled}
-use Rattle.claims_world.specs.SlotsAtBegin.{IsLinkedItd, IsItdOf}
+use Rattle.claims_world.specs.SlotsAtBegin.{IsLinkedAs, IsDescriptorOfEndpoint}
 use Rattle.claims_world.specs.Visits.{IsInChain, begins, frame_in}
 use Rattle.law_driver.specs.run_owners.Accepts.{Accepts, opens, chains, places, transfers, describes, cancels, unchains}
 use Rattle.law_driver.proofs.lemmas.run_owners.Commands.{each_command_has_its_reason}
 use Rattle.law_driver.proofs.lemmas.run_owners.Reasons.{each_event_is_due}
 use Rattle.law_driver.proofs.lemmas.run_owners.Runs.{placed_run}
 use Rattle.law_driver.proofs.lemmas.run_owners.Stays.{begun_notes}
-use Rattle.law_frames.specs.Met.{Kind, AQueue, AnItd}
+use Rattle.law_frames.specs.Met.{Kind, AQueue}
 use Rattle.law_descriptors.specs.Meeting.{kind_of_descriptor, met}
 use Rattle.law_descriptors.proofs.Leading.{led_linked}
 use Rattle.law_world.specs.memory.Mixed.{IsMixedWorld}
@@ -55,49 +55,50 @@ use Rattle.law_microframes.proofs.lemmas.visits.ActiveStands.{same_run}
 use Rattle.law_microframes.proofs.lemmas.visits.NoneLeftWorlds.{in_chain_stands}
 use Rattle.law_microframes.proofs.lemmas.visits.OneDescriptor.{unreported, active_framed}
 use Rattle.law_microframes.proofs.lemmas.visits.OneDescriptorDriven.{Follows, row_follows}
-use Rattle.law_microframes.proofs.lemmas.visits.OneDescriptorMet.{met_is_active}
 use Rattle.law_microframes.proofs.lemmas.visits.OneDescriptorRows.{From, or_notes}
 use Rattle.law_microframes.proofs.lemmas.visits.ReasonParts.{command_control}
 use Rattle.law_reports.proofs.lemmas.due_at_begin.InFrames.{driver_uncancelled, command_uncancelled}
-use Rattle.law_reports.proofs.lemmas.due_at_begin.Reached.{itd_reached}
-use Rattle.law_reports.proofs.lemmas.due_at_begin.SlotAhead.{IsActiveThere, met_there, its_part, active_there}
-use Rattle.law_microframes.proofs.lemmas.due.OnceStays.{member_of_itd, not_removed, led_still}
+use Rattle.law_reports.proofs.lemmas.due_at_begin.Reached.{structure_at, descriptor_met, descriptor_reached}
+use Rattle.law_microframes.proofs.lemmas.due.OnceStays.{member_of_descriptor, not_removed, led_still}
 
 -- ---- its member of the frame list
 
 abbrev split_at : DriverContent → Descriptor → Bool
 split_at d c = (note_at d.periodic.notes (c.id / 32)).split
 
-pub record IsItsMember (w : World) (n : ℕ) : Type 0 where
+pub record IsItsMember (split : Bool) (w : World) (n : ℕ) : Type 0 where
   pub descriptor : Descriptor
   pub on : is_linked (led w.driver) (Once descriptor) ≡ true
   pub at : begins (Once descriptor) ≡ n
   pub frame : descriptor.frame ≡ frame_in w.control.frame.index
-  pub split : split_at w.driver descriptor ≡ false
+  pub its_split : split_at w.driver descriptor ≡ split
 
-is_itd : (b : Bool) → ◌≡◌ {A = Option Kind} (Some (kind_of_descriptor b)) (Some AnItd) → b ≡ false
-is_itd true same = absurd (cc)
-is_itd false same = refl
+same_kind : (b c : Bool) → ◌≡◌ {A = Option Kind} (Some (kind_of_descriptor b)) (Some (kind_of_descriptor c)) → b ≡ c
+same_kind true true same = refl
+same_kind true false same = absurd (cc)
+same_kind false true same = absurd (cc)
+same_kind false false same = refl
 
-no_queue : ◌≡◌ {A = Option Kind} (Some AQueue) (Some AnItd) → ⊥
-no_queue same = cc
+no_queue : (b : Bool) → ◌≡◌ {A = Option Kind} (Some AQueue) (Some (kind_of_descriptor b)) → ⊥
+no_queue true same = cc
+no_queue false same = cc
 
-module _ (w : World) (k : IsMixedWorld w) (n : ℕ) (l : IsLinkedItd w n) where
+module _ (split : Bool) (w : World) (k : IsMixedWorld w) (n : ℕ) (l : IsLinkedAs (structure_at split) w n) where
   by_member : (x : Member) → is_linked (led w.driver) x ≡ true → begins x ≡ n
-      → stands_in (frame_in w.control.frame.index) x ≡ true → IsItsMember w n
+      → stands_in (frame_in w.control.frame.index) x ≡ true → IsItsMember split w n
   by_member (Each q) on at stands =
-      absurd (no_queue (sym (led_met k.standing w (Each q) k.mixed on) ∙ ap (met w.driver k.standing.recent) at
-      ∙ met_there w k n l.reached))
+      absurd (no_queue split (sym (led_met k.standing w (Each q) k.mixed on) ∙ ap (met w.driver k.standing.recent) at
+      ∙ descriptor_met w k n split l.reached))
   by_member (Once c) on at stands = record {
     descriptor = c;
     on = on;
     at = at;
     frame = eqb-true c.frame (frame_in w.control.frame.index) stands;
-    split = is_itd (split_at w.driver c)
-        (sym (led_met k.standing w (Once c) k.mixed on) ∙ ap (met w.driver k.standing.recent) at ∙ met_there w k n l.reached);
+    its_split = same_kind (split_at w.driver c) split
+        (sym (led_met k.standing w (Once c) k.mixed on) ∙ ap (met w.driver k.standing.recent) at ∙ descriptor_met w k n split l.reached);
   }
 
-  pub its_member : IsItsMember w n
+  pub its_member : IsItsMember split w n
   its_member =
       let s : StandsIn w.driver (frame_in w.control.frame.index) n =
       in_chain_stands k.standing w (frame_in w.control.frame.index) n k.mixed (in_list w.control.frame.index) l.chain in
@@ -105,8 +106,8 @@ module _ (w : World) (k : IsMixedWorld w) (n : ℕ) (l : IsLinkedItd w n) where
 
 -- ---- it is linked where its member is led to, and its endpoint isn't cancelled
 
-module _ (w : World) (k : IsMixedWorld w) (n : ℕ) (i : IsItsMember w n) (e : ℕ) (of : IsItdOf w.driver e n)
-    (off : IsUncancelled w.driver e) where
+module _ (split : Bool) (w : World) (k : IsMixedWorld w) (n : ℕ) (i : IsItsMember split w n) (e : ℕ)
+    (of : IsDescriptorOfEndpoint w.driver e n) (off : IsUncancelled w.driver e) where
   abbrev member : Descriptor
   member = i.descriptor
 
@@ -118,47 +119,49 @@ module _ (w : World) (k : IsMixedWorld w) (n : ℕ) (i : IsItsMember w n) (e : �
       not_removed w.driver k.mixed.now.framed.place.sound.owners k.mixed.now.framed.place.sound.listed i.descriptor
       (led_linked w.driver.periodic.list.members.schedule w.driver.periodic.list.work (Once i.descriptor) i.on) n i.at e of off
 
-  is_met : met w.driver k.standing.recent n ≡ Some AnItd
+  is_met : met w.driver k.standing.recent n ≡ Some (kind_of_descriptor split)
   is_met =
       ap (met w.driver k.standing.recent) (sym i.at) ∙ led_met k.standing w (Once i.descriptor) k.mixed i.on
-      ∙ ap (λ (b : Bool). Some (kind_of_descriptor b)) i.split
+      ∙ ap (λ (b : Bool). Some (kind_of_descriptor b)) i.its_split
 
-  pub linked_there : IsLinkedItd w n
+  pub linked_there : IsLinkedAs (structure_at split) w n
   linked_there =
       let way : IsInChain w (frame_in w.control.frame.index) n =
       subst (λ (f : ℕ). IsInChain w f n) i.frame (subst (IsInChain w i.descriptor.frame) i.at
       (descriptor_in_chain k.standing w k.mixed i.descriptor i.on low stays)) in
       record {
         chain = way;
-        reached = itd_reached k.standing w k.mixed n is_met (frame_in w.control.frame.index) (in_list w.control.frame.index) way;
+        reached = descriptor_reached k.standing w k.mixed n split is_met (frame_in w.control.frame.index) (in_list w.control.frame.index)
+            way;
       }
 
 -- ---- whose it is stays
 
 -- with the same run
-same_owner : (d : DriverContent) (has : HasOwners d) (e f n : ℕ) → IsItdOf d e n → IsItdOf d f n → e ≡ f
+same_owner : (d : DriverContent) (has : HasOwners d) (e f n : ℕ) → IsDescriptorOfEndpoint d e n → IsDescriptorOfEndpoint d f n → e ≡ f
 same_owner d has e f n one two =
     let same : one.transfer ≡ two.transfer =
     same_run d has one.number two.number n one.transfer two.transfer one.here two.here one.sort two.sort one.held two.held one.at two.at in
     sym one.endpoint ∙ ap (λ (y : Transfer). y.endpoint) same ∙ two.endpoint
 
-module _ (w : World) (k : IsMixedWorld w) (n : ℕ) (i : IsItsMember w n) where
-  its_owner : (e : ℕ) × IsItdOf w.driver e n
+module _ (split : Bool) (w : World) (k : IsMixedWorld w) (n : ℕ) (i : IsItsMember split w n) where
+  pub its_owner : (e : ℕ) × IsDescriptorOfEndpoint w.driver e n
   its_owner = (
     _,
-    member_of_itd w.driver k.mixed.now.framed.place.sound.owners k.mixed.now.framed.place.sound.listed i.descriptor
+    member_of_descriptor w.driver k.mixed.now.framed.place.sound.owners k.mixed.now.framed.place.sound.listed i.descriptor
         (led_linked w.driver.periodic.list.members.schedule w.driver.periodic.list.work (Once i.descriptor) i.on) n i.at,
   )
 
-module _ (w : World) (k : IsMixedWorld w) (n : ℕ) (later : IsMixedWorld (driver_next w)) (i : IsItsMember (driver_next w) n) where
-  pub driven_owner : (e : ℕ) → IsItdOf w.driver e n → IsItdOf (driver_next w).driver e n
+module _ (split : Bool) (w : World) (k : IsMixedWorld w) (n : ℕ) (later : IsMixedWorld (driver_next w))
+    (i : IsItsMember split (driver_next w) n) where
+  pub driven_owner : (e : ℕ) → IsDescriptorOfEndpoint w.driver e n → IsDescriptorOfEndpoint (driver_next w).driver e n
   driven_owner e of =
-      let now = its_owner (driver_next w) later n i in
+      let now = its_owner split (driver_next w) later n i in
       let place = k.mixed.now.framed.place in
       let f : Follows w.driver w.memory (driver_next w).driver =
       row_follows (driver_row (driver_parts w)) (driver_parts w) (each_event_is_due (driver_parts w)) place.sound in
       let from : From w.driver w.memory now.1.number now.1.transfer = f.back now.1.number now.1.transfer now.1.here now.1.sort now.1.held in
-      let was : IsItdOf w.driver now.0 n = record {
+      let was : IsDescriptorOfEndpoint w.driver now.0 n = record {
         number = now.1.number;
         transfer = from.transfer;
         here = from.here;
@@ -167,13 +170,14 @@ module _ (w : World) (k : IsMixedWorld w) (n : ℕ) (later : IsMixedWorld (drive
         at = now.1.at ∙ ap (λ (b : ℕ). 32 * b) (sym from.first);
         endpoint = from.endpoint ∙ now.1.endpoint;
       } in
-      subst (λ (x : ℕ). IsItdOf (driver_next w).driver x n) (same_owner w.driver place.sound.owners now.0 e n was of) now.1
+      subst (λ (x : ℕ). IsDescriptorOfEndpoint (driver_next w).driver x n) (same_owner w.driver place.sound.owners now.0 e n was of) now.1
 
-pub commanded_owner : (w : World) (line : ℕ) (cmd : Cmd) (e n : ℕ) → IsItdOf w.driver e n → IsItdOf (commanded w line cmd).driver e n
+pub commanded_owner : (w : World) (line : ℕ) (cmd : Cmd) (e n : ℕ) → IsDescriptorOfEndpoint w.driver e n
+    → IsDescriptorOfEndpoint (commanded w line cmd).driver e n
 commanded_owner w line cmd e n of = answered (offered w.driver w.memory cmd) refl
   where
     answered : (r : Result Offered OfferError) → offered w.driver w.memory cmd ≡ r
-        → IsItdOf (commanded_by w line (name_in cmd) r).driver e n
+        → IsDescriptorOfEndpoint (commanded_by w line (name_in cmd) r).driver e n
     answered (Err why) is = record {
       number = of.number;
       transfer = of.transfer;
@@ -214,7 +218,7 @@ module _ (d : DriverContent) (m : Mem) (o : Offered) (stands : Stands (holding d
       ∙ ap (λ (ns : List DescriptorNote). (note_at ns b).split) (begun_notes true (record d.periodic { queued = ms }))
 
 module _ (w : World) (k : IsMixedWorld w) (line : ℕ) (cmd : Cmd) (e n : ℕ) (c : Descriptor) (at : begins (Once c) ≡ n)
-    (of : IsItdOf w.driver e n) where
+    (of : IsDescriptorOfEndpoint w.driver e n) where
   run : HasRun (run_at w.driver.book.slots (c.id / 32))
   run =
       let place = k.mixed.now.framed.place in
@@ -236,17 +240,14 @@ module _ (w : World) (k : IsMixedWorld w) (line : ℕ) (cmd : Cmd) (e n : ℕ) (
 
 -- ---- an event of the driver, or a command
 
-module _ (w : World) (k : IsMixedWorld w) (one : HasOneActive w.driver w.memory) (n : ℕ) (l : IsLinkedItd w n) (u : ℕ) (few : u < 8)
-    (active : IsActiveThere w.memory n u) where
-  abbrev i : IsItsMember w n
-  i = its_member w k n l
+module _ (split : Bool) (w : World) (k : IsMixedWorld w) (one : HasOneActive w.driver w.memory) (n : ℕ)
+    (l : IsLinkedAs (structure_at split) w n) (a : IsActiveSome w.driver w.memory n) where
+  abbrev i : IsItsMember split w n
+  i = its_member split w k n l
 
   -- nothing was told of it
-  untold : (e : ℕ) (of : IsItdOf w.driver e n) → of.transfer.reported ≡ false
+  untold : (e : ℕ) (of : IsDescriptorOfEndpoint w.driver e n) → of.transfer.reported ≡ false
   untold e of =
-      let p = its_part w k n l.reached in
-      let a : IsActiveSome w.driver w.memory n =
-      met_is_active k.standing w n u p.itd k.mixed p.here few (active_there w k n l.reached u few active) in
       let same : a.is.transfer ≡ of.transfer =
       same_run w.driver k.mixed.now.framed.place.sound.owners a.is.number of.number n a.is.transfer of.transfer a.is.here of.here
       a.is.descriptor of.sort a.is.held of.held a.is.at of.at in
@@ -254,47 +255,48 @@ module _ (w : World) (k : IsMixedWorld w) (one : HasOneActive w.driver w.memory)
       ∙ unreported w.driver w.memory a.endpoint a.frame n one
       (active_framed w.driver w.memory a.endpoint a.frame n k.mixed.awaiting a.is)
 
-  module _ (e : ℕ) (of : IsItdOf w.driver e n) where
+  module _ (e : ℕ) (of : IsDescriptorOfEndpoint w.driver e n) where
     module _ (later : IsMixedWorld (driver_next w)) (off : IsUncancelled (driver_next w).driver e) where
-      driven_member : IsItsMember (driver_next w) n
+      driven_member : IsItsMember split (driver_next w) n
       driven_member = record {
         descriptor = i.descriptor;
         on = led_still w k i.descriptor i.on n i.at e of (driver_uncancelled w e off) (untold e of);
         at = i.at;
         frame = i.frame;
-        split = (row_follows (driver_row (driver_parts w)) (driver_parts w) (each_event_is_due (driver_parts w))
-            k.mixed.now.framed.place.sound).split (i.descriptor.id / 32) ∙ i.split;
+        its_split = (row_follows (driver_row (driver_parts w)) (driver_parts w) (each_event_is_due (driver_parts w))
+            k.mixed.now.framed.place.sound).split (i.descriptor.id / 32) ∙ i.its_split;
       }
 
-      pub driven_there : IsLinkedItd (driver_next w) n
+      pub driven_there : IsLinkedAs (structure_at split) (driver_next w) n
       driven_there =
-          linked_there (driver_next w) later n driven_member e (driven_owner w k n later driven_member e of) off
+          linked_there split (driver_next w) later n driven_member e (driven_owner split w k n later driven_member e of) off
 
-module _ (w : World) (k : IsMixedWorld w) (n : ℕ) (l : IsLinkedItd w n) (e : ℕ) (of : IsItdOf w.driver e n) where
-  abbrev its : IsItsMember w n
-  its = its_member w k n l
+module _ (split : Bool) (w : World) (k : IsMixedWorld w) (n : ℕ) (l : IsLinkedAs (structure_at split) w n) (e : ℕ)
+    (of : IsDescriptorOfEndpoint w.driver e n) where
+  abbrev its : IsItsMember split w n
+  its = its_member split w k n l
 
   module _ (line : ℕ) (cmd : Cmd) (later : IsMixedWorld (commanded w line cmd)) (off : IsUncancelled (commanded w line cmd).driver e) where
-    pub commanded_there : IsLinkedItd (commanded w line cmd) n
+    pub commanded_there : IsLinkedAs (structure_at split) (commanded w line cmd) n
     commanded_there =
-        linked_there (commanded w line cmd) later n (record {
+        linked_there split (commanded w line cmd) later n (record {
           descriptor = its.descriptor;
           on = ap (λ (x : Schedule). is_linked x (Once its.descriptor)) (command_led w k line cmd) ∙ its.on;
           at = its.at;
           frame = its.frame ∙ ap (λ (c : Control). frame_in c.frame.index) (sym (command_control w line cmd));
-          split = commanded_split w k line cmd e n its.descriptor its.at of ∙ its.split;
+          its_split = commanded_split w k line cmd e n its.descriptor its.at of ∙ its.its_split;
         }) e (commanded_owner w line cmd e n of) off
 
   module _ (fixed : Fixed) (later : IsMixedWorld (controller_next fixed w)) (off : IsUncancelled w.driver e)
       (index : (controller_next fixed w).control.frame.index ≡ w.control.frame.index) where
-    pub controlled_there : IsLinkedItd (controller_next fixed w) n
+    pub controlled_there : IsLinkedAs (structure_at split) (controller_next fixed w) n
     controlled_there =
-        linked_there (controller_next fixed w) later n (record {
+        linked_there split (controller_next fixed w) later n (record {
           descriptor = its.descriptor;
           on = its.on;
           at = its.at;
           frame = its.frame ∙ ap frame_in (sym index);
-          split = its.split;
+          its_split = its.its_split;
         }) e of off
 
 -- ---- one more event or command
@@ -311,29 +313,35 @@ module _ (fixed : Fixed) (w : World) (k : IsMixedWorld w) where
   uncancelled_before e (Command n cmd ∷ rest) off = command_uncancelled w n cmd e off
   uncancelled_before e (Plugs there port ∷ rest) off = off
 
-  pub owner_then : (n : ℕ) (orders : List Left) → IsMixedWorld (tick_at fixed w orders).world → IsLinkedItd (tick_at fixed w orders).world n
-      → (e : ℕ) → IsItdOf w.driver e n → IsItdOf (tick_at fixed w orders).world.driver e n
-  owner_then n [] later l e of = of
-  owner_then n (Events event zero ∷ rest) later l e of = of
-  owner_then n (Events events.C (suc m) ∷ rest) later l e of = of
-  owner_then n (Events events.D (suc m) ∷ rest) later l e of = driven_owner w k n later (its_member (driver_next w) later n l) e of
-  owner_then n (Microframes zero ∷ rest) later l e of = of
-  owner_then n (Microframes (suc m) ∷ rest) later l e of = of
-  owner_then n (Answer ended m ∷ rest) later l e of = driven_owner w k n later (its_member (driver_next w) later n l) e of
-  owner_then n (Command m cmd ∷ rest) later l e of = commanded_owner w m cmd e n of
-  owner_then n (Plugs there port ∷ rest) later l e of = of
+  module _ (split : Bool) (n : ℕ) where
+    abbrev Linked : World → Type 0
+    Linked v = IsLinkedAs (structure_at split) v n
 
-  module _ (one : HasOneActive w.driver w.memory) (n : ℕ) (l : IsLinkedItd w n) (u : ℕ) (few : u < 8) (active : IsActiveThere w.memory n u)
-      (e : ℕ) (of : IsItdOf w.driver e n) where
-    pub linked_then : (orders : List Left) → IsMixedWorld (tick_at fixed w orders).world
-        → (tick_at fixed w orders).world.control.frame.index ≡ w.control.frame.index
-        → IsUncancelled (tick_at fixed w orders).world.driver e → IsLinkedItd (tick_at fixed w orders).world n
-    linked_then [] later index off = l
-    linked_then (Events event zero ∷ rest) later index off = l
-    linked_then (Events events.C (suc m) ∷ rest) later index off = controlled_there w k n l e of fixed later off index
-    linked_then (Events events.D (suc m) ∷ rest) later index off = driven_there w k one n l u few active e of later off
-    linked_then (Microframes zero ∷ rest) later index off = l
-    linked_then (Microframes (suc m) ∷ rest) later index off = controlled_there w k n l e of fixed later off index
-    linked_then (Answer ended m ∷ rest) later index off = driven_there w k one n l u few active e of later off
-    linked_then (Command m cmd ∷ rest) later index off = commanded_there w k n l e of m cmd later off
-    linked_then (Plugs there port ∷ rest) later index off = l
+    pub owner_then : (orders : List Left) → IsMixedWorld (tick_at fixed w orders).world → Linked (tick_at fixed w orders).world
+        → (e : ℕ) → IsDescriptorOfEndpoint w.driver e n → IsDescriptorOfEndpoint (tick_at fixed w orders).world.driver e n
+    owner_then [] later l e of = of
+    owner_then (Events event zero ∷ rest) later l e of = of
+    owner_then (Events events.C (suc m) ∷ rest) later l e of = of
+    owner_then (Events events.D (suc m) ∷ rest) later l e of =
+        driven_owner split w k n later (its_member split (driver_next w) later n l) e of
+    owner_then (Microframes zero ∷ rest) later l e of = of
+    owner_then (Microframes (suc m) ∷ rest) later l e of = of
+    owner_then (Answer ended m ∷ rest) later l e of =
+        driven_owner split w k n later (its_member split (driver_next w) later n l) e of
+    owner_then (Command m cmd ∷ rest) later l e of = commanded_owner w m cmd e n of
+    owner_then (Plugs there port ∷ rest) later l e of = of
+
+    module _ (one : HasOneActive w.driver w.memory) (l : Linked w) (a : IsActiveSome w.driver w.memory n) (e : ℕ)
+        (of : IsDescriptorOfEndpoint w.driver e n) where
+      pub linked_then : (orders : List Left) → IsMixedWorld (tick_at fixed w orders).world
+          → (tick_at fixed w orders).world.control.frame.index ≡ w.control.frame.index
+          → IsUncancelled (tick_at fixed w orders).world.driver e → Linked (tick_at fixed w orders).world
+      linked_then [] later index off = l
+      linked_then (Events event zero ∷ rest) later index off = l
+      linked_then (Events events.C (suc m) ∷ rest) later index off = controlled_there split w k n l e of fixed later off index
+      linked_then (Events events.D (suc m) ∷ rest) later index off = driven_there split w k one n l a e of later off
+      linked_then (Microframes zero ∷ rest) later index off = l
+      linked_then (Microframes (suc m) ∷ rest) later index off = controlled_there split w k n l e of fixed later off index
+      linked_then (Answer ended m ∷ rest) later index off = driven_there split w k one n l a e of later off
+      linked_then (Command m cmd ∷ rest) later index off = commanded_there split w k n l e of m cmd later off
+      linked_then (Plugs there port ∷ rest) later index off = l
