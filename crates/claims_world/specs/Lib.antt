@@ -27,6 +27,7 @@ pub mod SlotsAtBegin
 pub mod QueuesMade
 pub mod SplitsAtBegin
 pub mod Sitds
+pub mod SitdsAtBegin
 pub mod Unfinished
 pub mod Slots
 pub mod Losses

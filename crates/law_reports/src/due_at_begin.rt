@@ -3,6 +3,8 @@
 //!
 //! - `due`: What was due of a high-speed interrupt endpoint as its microframe began is done once the walk of the frames is over.
 //! - `framed`: What was in the frame list as a frame began stays there.
+//! - `sitds`: Each siTD of which a transaction was due as its microframe began had it, and was written back.
+//! - `sitds_worked`: Worked rows of a speaker and of a microphone behind a hub.
 //! - `slots`: Each slot of an isochronous transfer descriptor that was due as its microframe began is done too.
 //! - `slots_worked`: Worked rows of a microphone.
 //! - `splits`: Each start-split and each complete-split of an interrupt endpoint that was due as its microframe began is made in it.
@@ -15,6 +17,8 @@
 
 pub mod due;
 pub mod framed;
+pub mod sitds;
+pub mod sitds_worked;
 pub mod slots;
 pub mod slots_worked;
 pub mod splits;

@@ -16,10 +16,13 @@ pub mod Elsewhere
 pub mod SlotAhead
 pub mod DescriptorThere
 pub mod DescriptorMoments
+pub mod SitdAhead
 pub mod BegunMoments
 pub mod Framed
 pub mod SlotStored
 pub mod SlotMoments
+pub mod SitdMoments
+pub mod SitdSampled
 pub mod SlotSampled
 pub mod Unfinished
 pub mod SplitTurns
