@@ -68,6 +68,10 @@ SAYS = {
              "again: the siTDs to which it came with a transaction to be made in this microframe are those that were written back after it, one for "
              "one: of an OUT a part, with which there is one fewer to send; of an IN its start-split, or a complete-split; parts and complete-splits "
              "mark the microframe as done.",
+    "sitds_at_begin": "Once the walk of the frames is over in such a microframe: each siTD to which the links of its frame led as the microframe "
+                      "began, and of which a transaction was to come in this microframe by its words then, had that transaction and was written "
+                      "back after it, unless a cancel of its endpoint was accepted since; and so did that of a cancelled endpoint to which they "
+                      "lead at each moment of the microframe nevertheless.",
     "goes_on": "At each moment: a bulk or interrupt endpoint that goes on, whose queue head isn't halted, and which has a transfer that is stored and of which a qTD is still active, has a queue head whose overlay is active or goes on to an "
             "active qTD; and so has its copy in the hand of either walk before its transaction. So no such queue head is passed for want of work.",
     "streams": "Whatever a script opens and cancels: at each moment, and after the run, the bytes told of each bulk and interrupt IN endpoint at high speed that was opened begin its stream, each once and in order; those told of each such OUT "

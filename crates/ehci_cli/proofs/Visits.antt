@@ -14,7 +14,9 @@ use Rattle.law_microframes.proofs.lemmas.translators.TurnsTexts.{texts_keep_tran
 use Rattle.claims_world.specs.Slots.{SlotsAreDone}
 use Rattle.claims_world.specs.SlotsAtBegin.{SlotsAtBeginAreDone}
 use Rattle.claims_world.specs.Sitds.{SitdsAreServed}
+use Rattle.claims_world.specs.SitdsAtBegin.{SitdsAtBeginAreServed}
 use Rattle.claims_world.specs.SplitsAtBegin.{KeepsSplits}
+use Rattle.law_reports.proofs.lemmas.due_at_begin.SitdMoments.{texts_serve_sitds_at_begin}
 use Rattle.law_reports.proofs.lemmas.due_at_begin.SlotMoments.{texts_do_slots_at_begin}
 use Rattle.law_reports.proofs.lemmas.due_at_begin.SplitDue.{texts_make_splits}
 use Rattle.claims_world.specs.Unfinished.{KeepsToWork}
@@ -66,3 +68,6 @@ source_makes_splits = of_each KeepsSplits texts_make_splits
 
 pub source_serves_sitds : (words : List (List ℕ)) (left : Option (List ℕ)) → OfEachScript SitdsAreServed words left
 source_serves_sitds = of_each SitdsAreServed texts_serve_sitds
+
+pub source_serves_sitds_at_begin : (words : List (List ℕ)) (left : Option (List ℕ)) → OfEachScript SitdsAtBeginAreServed words left
+source_serves_sitds_at_begin = of_each SitdsAtBeginAreServed texts_serve_sitds_at_begin

@@ -23,6 +23,7 @@ ghost use Rattle.claims_world.specs.Losses.{RepeatAfterLosses};
 ghost use Rattle.claims_translators.specs.Translators.{KeepsTranslators};
 ghost use Rattle.claims_world.specs.Slots.{SlotsAreDone};
 ghost use Rattle.claims_world.specs.Sitds.{SitdsAreServed};
+ghost use Rattle.claims_world.specs.SitdsAtBegin.{SitdsAtBeginAreServed};
 ghost use Rattle.claims_world.specs.SlotsAtBegin.{SlotsAtBeginAreDone};
 ghost use Rattle.claims_world.specs.SplitsAtBegin.{KeepsSplits};
 ghost use Rattle.claims_world.specs.Unfinished.{KeepsToWork};
@@ -193,6 +194,7 @@ pub fn ehci<S: Source, K: Sink>(
     ensures slots_at_begin { OfEachScript SlotsAtBeginAreDone (map string_bytes words.now) (S.left source.old) }
     ensures splits_at_begin { OfEachScript KeepsSplits (map string_bytes words.now) (S.left source.old) }
     ensures sitds { OfEachScript SitdsAreServed (map string_bytes words.now) (S.left source.old) }
+    ensures sitds_at_begin { OfEachScript SitdsAtBeginAreServed (map string_bytes words.now) (S.left source.old) }
     ensures goes_on { OfEachScript KeepsToWork (map string_bytes words.now) (S.left source.old) }
     ensures streams { OfEachScript KeepsStreams (map string_bytes words.now) (S.left source.old) }
     ensures ends { OfEachScript EndsOnce (map string_bytes words.now) (S.left source.old) }
