@@ -14,11 +14,11 @@ use Rattle.claims_report.specs.Requests.{Request, has_acted}
 use Rattle.claims_report.specs.ControlSides.{Device}
 use Rattle.law_ring.specs.Hand.{Hand}
 use Rattle.claims_base.specs.Controller.{Base}
-use Rattle.law_controller.specs.controlled_streams.Control.{IsOn, IsControlled, Controls}
 use Rattle.claims_report.specs.Controls.{control_of}
 use Rattle.law_devices.specs.scripted_requests.Controls.{transacts_by, begins_by}
 use Rattle.bus_world.specs.World.{World, controller_next, controller_parts}
 use Rattle.claims_world.specs.Requests.{wired, Windows, after_event, numbers_of, window_at}
+use Rattle.law_reports.specs.requests.world_requests.Requesting.{IsWalked, RingGoesOn}
 use Rattle.law_reports.specs.requests.Courses.{Course, queue_in, have_queues, CoursesStand}
 use Rattle.law_reports.specs.requests.QueueEvents.{CoursesGoOn}
 use Rattle.law_reports.specs.requests.Records.{Numbers, IsOnceAt, AreRecords}
@@ -36,8 +36,8 @@ side_at fixed w c = control_of (wired fixed w) (queue_in c).endpoint.addr (queue
 
 abbrev pub EventKeepsCounts : Type 0
 EventKeepsCounts = (fixed : Fixed) (base : Base) (member : ℕ → Bool) (courses : ℕ → Course) (numbers : ℕ → Numbers) (gone : ℕ → Bool) (parts : StructureSets) (hand : Hand) (asks : ℕ → Request) (w : World)
-    (v : Windows) (event : Controls begins_by transacts_by base member parts hand (wired fixed w) (wired fixed (controller_next fixed w)) (controller_parts (controller_next fixed w)))
-    (g : CoursesGoOn control_of member courses event.effect) → IsOn base → IsControlled base member parts hand (controller_parts w) → CoursesStand control_of member courses parts hand (wired fixed w)
+    (v : Windows) (event : RingGoesOn begins_by transacts_by base member parts hand (wired fixed w) (wired fixed (controller_next fixed w)) (controller_parts (controller_next fixed w)))
+    (g : CoursesGoOn control_of member courses event.effect) → IsWalked base member parts hand (controller_parts w) → CoursesStand control_of member courses parts hand (wired fixed w)
     → IsOwned w.driver parts → ((e : ℕ) (x : DriverEndpoint) → gone e ≡ true → slice_get w.driver.endpoints e ≡ Some x → IsLeftAlone fixed w (controller_next fixed w) x)
     → AreRecords w.driver asks courses numbers gone v → (n : ℕ) → have_queues courses n ≡ true
     → Counts (side_at fixed w (courses n)) (counted_all v (numbers_of w.driver (numbers n).endpoint) 0)

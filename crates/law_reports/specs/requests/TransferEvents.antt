@@ -16,13 +16,13 @@ use Rattle.dev_control.specs.Stages.{Stages}
 use Rattle.law_ring.specs.Hand.{Hand}
 use Rattle.claims_base.specs.Controller.{Base}
 use Rattle.law_devices.specs.ring_requests.Windows.{Queue}
-use Rattle.law_controller.specs.controlled_streams.Control.{IsOn, IsControlled, Controls}
 use Rattle.claims_report.specs.Controls.{control_of}
 use Rattle.law_devices.specs.scripted_requests.Controls.{transacts_by, begins_by}
 use Rattle.law_driver_ring.specs.Inventory.{sorts_of, IsDriven}
 use Rattle.bus_world.specs.World.{World, controller_next, controller_parts}
 use Rattle.claims_world.specs.Requests.{wired, Windows, after_event, numbers_of}
 use Rattle.law_reports.specs.requests.driver_requests.Requests.{HaveQtds}
+use Rattle.law_reports.specs.requests.world_requests.Requesting.{IsWalked, RingGoesOn}
 use Rattle.law_reports.specs.requests.Courses.{Course, Rests, have_queues, CoursesStand}
 use Rattle.law_reports.specs.requests.QueueEvents.{courses_after, CoursesGoOn}
 use Rattle.law_reports.specs.requests.Records.{Numbers, AreRecords}
@@ -37,8 +37,8 @@ pub record IsOwned (d : DriverContent) (parts : StructureSets) : Type 0 where
 
 abbrev pub EventKeepsRecords : Type 0
 EventKeepsRecords = (fixed : Fixed) (base : Base) (member : ℕ → Bool) (courses : ℕ → Course) (numbers : ℕ → Numbers) (gone : ℕ → Bool) (parts : StructureSets) (hand : Hand) (asks : ℕ → Request) (w : World) (v : Windows)
-    (event : Controls begins_by transacts_by base member parts hand (wired fixed w) (wired fixed (controller_next fixed w)) (controller_parts (controller_next fixed w)))
-    (g : CoursesGoOn control_of member courses event.effect) → IsOn base → IsControlled base member parts hand (controller_parts w) → CoursesStand control_of member courses parts hand (wired fixed w)
+    (event : RingGoesOn begins_by transacts_by base member parts hand (wired fixed w) (wired fixed (controller_next fixed w)) (controller_parts (controller_next fixed w)))
+    (g : CoursesGoOn control_of member courses event.effect) → IsWalked base member parts hand (controller_parts w) → CoursesStand control_of member courses parts hand (wired fixed w)
     → IsOwned w.driver parts → ((e : ℕ) (x : DriverEndpoint) → gone e ≡ true → slice_get w.driver.endpoints e ≡ Some x → IsLeftAlone fixed w (controller_next fixed w) x)
     → AreRecords w.driver asks courses numbers gone v → AreRecords w.driver asks (courses_after g.step courses) numbers gone (after_event fixed w v)
 
@@ -49,7 +49,7 @@ pub record ClosedStay (d : DriverContent) (courses : ℕ → Course) (numbers : 
 
 abbrev pub EventKeepsClosed : Type 0
 EventKeepsClosed = (fixed : Fixed) (base : Base) (member : ℕ → Bool) (courses : ℕ → Course) (numbers : ℕ → Numbers) (gone : ℕ → Bool) (parts : StructureSets) (hand : Hand) (asks : ℕ → Request) (w : World) (v : Windows)
-    (event : Controls begins_by transacts_by base member parts hand (wired fixed w) (wired fixed (controller_next fixed w)) (controller_parts (controller_next fixed w)))
-    (g : CoursesGoOn control_of member courses event.effect) → IsOn base → IsControlled base member parts hand (controller_parts w) → CoursesStand control_of member courses parts hand (wired fixed w)
+    (event : RingGoesOn begins_by transacts_by base member parts hand (wired fixed w) (wired fixed (controller_next fixed w)) (controller_parts (controller_next fixed w)))
+    (g : CoursesGoOn control_of member courses event.effect) → IsWalked base member parts hand (controller_parts w) → CoursesStand control_of member courses parts hand (wired fixed w)
     → IsOwned w.driver parts → ((e : ℕ) (x : DriverEndpoint) → gone e ≡ true → slice_get w.driver.endpoints e ≡ Some x → IsLeftAlone fixed w (controller_next fixed w) x)
     → AreRecords w.driver asks courses numbers gone v → ClosedStay w.driver courses numbers gone v (after_event fixed w v)

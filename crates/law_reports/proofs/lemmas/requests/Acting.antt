@@ -14,12 +14,11 @@ use Rattle.claims_report.specs.Requests.{Request}
 use Rattle.law_ring.specs.Hand.{Hand}
 use Rattle.claims_base.specs.Controller.{Base}
 use Rattle.law_devices.specs.ring_requests.Windows.{Queue, Lines, IsQueue, Progress, Transaction, Advance, Step, opened, progressed, stepped, stage_of}
-use Rattle.law_devices.specs.control_requests.Events.{ControlWindowsGoOn}
 use Rattle.claims_report.specs.Controls.{control_of, is_at}
 use Rattle.law_devices.specs.scripted_requests.Controls.{transacts_by, begins_by}
 use Rattle.bus_world.specs.World.{World, controller_parts, controller_next}
 use Rattle.claims_world.specs.Requests.{wired, endpoint_of, Windows, acted_between, acts_in, opened_by, begun_by, acted_by, after_event}
-use Rattle.law_reports.specs.requests.world_requests.Requesting.{IsRequesting}
+use Rattle.law_reports.specs.requests.world_requests.Requesting.{AreAsked, WindowsGoOn}
 use Rattle.law_reports.specs.requests.world_requests.Recording.{AreTransfers, IsRecorded, AreRecorded}
 use Rattle.law_reports.proofs.lemmas.requests.lemmas.world_requests.Acting.{none_acted, transaction_acts}
 use Rattle.law_reports.proofs.lemmas.requests.lemmas.world_requests.Following.{event_kept, acted_is}
@@ -65,7 +64,7 @@ stepped_acts sent lines n (Some s) none = by (n == s.at) none
     by true none = step_acts (sent n) (lines n) s.is none
     by false none = none_acted ((lines n).line (lines n).under).device
 
-module _ (fixed : Fixed) (base : Base) (member windows : ℕ → Bool) (sent : ℕ → Queue) (parts : StructureSets) (hand : Hand) (lines : ℕ → Lines) (endpoint : ℕ → ℕ) (number : ℕ → ℕ → ℕ) (w : World) (v : Windows) (k : IsRequesting fixed base member windows sent parts hand lines w) (t : AreTransfers w.driver windows sent lines parts endpoint number) (r : IsRecorded windows sent endpoint number lines v) (g : ControlWindowsGoOn begins_by transacts_by control_of base member windows sent lines parts hand (wired fixed w) (wired fixed (controller_next fixed w)) (controller_parts (controller_next fixed w))) where
+module _ (fixed : Fixed) (base : Base) (member windows : ℕ → Bool) (sent : ℕ → Queue) (parts : StructureSets) (hand : Hand) (lines : ℕ → Lines) (endpoint : ℕ → ℕ) (number : ℕ → ℕ → ℕ) (w : World) (v : Windows) (k : AreAsked fixed base member windows sent parts hand lines w) (t : AreTransfers w.driver windows sent lines parts endpoint number) (r : IsRecorded windows sent endpoint number lines v) (g : WindowsGoOn begins_by transacts_by control_of base member windows sent lines parts hand (wired fixed w) (wired fixed (controller_next fixed w)) (controller_parts (controller_next fixed w))) where
   abbrev latest : ℕ → Option ℕ
   latest = opened_by w.driver (begun_by w) v.opened
 

@@ -12,6 +12,7 @@ use Rattle.law_ring.specs.Hand.{Hand}
 use Rattle.claims_base.specs.Controller.{Base}
 use Rattle.law_controller.specs.controlled_streams.Control.{IsOn, IsControlled, Controls}
 use Rattle.law_devices.specs.ring_requests.Windows.{Queue, Step}
+use Rattle.law_reports.specs.requests.world_requests.Requesting.{IsWalked, RingGoesOn}
 use Rattle.claims_report.specs.Controls.{control_of}
 use Rattle.law_devices.specs.scripted_requests.Controls.{transacts_by, begins_by}
 use Rattle.law_devices.proofs.lemmas.scripted_requests.Asking.{a_scripted_bus_answers_by_stages}
@@ -35,12 +36,18 @@ module _ (fixed : Fixed) (base : Base) (member : ℕ → Bool) (courses : ℕ �
   abbrev later : Windows
   later = after_event fixed w v
 
+  walked : IsWalked base member parts hand (controller_parts w)
+  walked = record { ring = controlled.ring; between = controlled.between }
+
+  abbrev ring_event : RingGoesOn begins_by transacts_by base member parts hand (wired fixed w) (wired fixed (controller_next fixed w)) (controller_parts (controller_next fixed w))
+  ring_event = record { now = event.now; later = event.later; ring = event.controlled.ring; effect = event.effect }
+
   goes : CoursesGoOn control_of member courses event.effect
   goes =
       event_keeps begins_by transacts_by control_of base member courses parts hand (controller_parts w) (wired fixed w) (wired fixed new) event.now event.later event.effect a_scripted_bus_answers_by_stages keeps_devices controlled k.stand
 
   stays : ClosedStay w.driver courses numbers gone v (after_event fixed w v)
-  stays = event_keeps_closed fixed base member courses numbers gone parts hand asks w v event goes on controlled k.stand owned alone
+  stays = event_keeps_closed fixed base member courses numbers gone parts hand asks w v ring_event goes walked k.stand owned alone
       k.records
 
   -- ---- what is told
@@ -81,12 +88,12 @@ module _ (fixed : Fixed) (base : Base) (member : ℕ → Bool) (courses : ℕ �
   counts_after : (n : ℕ) → have_queues courses n ≡ true → Counts (side_at fixed (controller_next fixed w) (course_after goes.step n (courses n))) (counted_all (after_event fixed w v) (numbers_of w.driver (numbers n).endpoint) 0)
   counts_after n has =
       subst (λ (q : Queue). Counts (control_of (wired fixed new) q.endpoint.addr q.endpoint.num) (counted_all later (numbers_of w.driver (numbers n).endpoint) 0)) (sym (queue_still goes.step n (courses n)))
-      (event_keeps_counts fixed base member courses numbers gone parts hand asks w v event goes on controlled k.stand owned alone k.records n has (k.counts n has))
+      (event_keeps_counts fixed base member courses numbers gone parts hand asks w v ring_event goes walked k.stand owned alone k.records n has (k.counts n has))
 
   asking_now : IsAsking fixed member (courses_after goes.step courses) numbers gone asks whole event.now event.later (controller_next fixed w) (after_event fixed w v)
   asking_now = record {
     stand = goes.stand;
-    records = event_keeps_records fixed base member courses numbers gone parts hand asks w v event goes on controlled k.stand owned alone k.records;
+    records = event_keeps_records fixed base member courses numbers gone parts hand asks w v ring_event goes walked k.stand owned alone k.records;
     told = λ n has. told_after n (sym (has_before goes.step n (courses n)) ∙ has);
     counts = λ n has. counts_after n (sym (has_before goes.step n (courses n)) ∙ has);
   }

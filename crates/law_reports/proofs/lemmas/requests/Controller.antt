@@ -47,6 +47,7 @@ use Rattle.law_world.specs.steps.Streaming.{Streams, Standing}
 use Rattle.law_world.proofs.lemmas.steps.StreamTurning.{world_has_row}
 use Rattle.law_world.proofs.lemmas.steps.lemmas.world_bytes.Hearing.{a_bus_of_bytes_is_heard_as_bytes}
 use Rattle.claims_world.specs.Requests.{wired, Windows, numbers_of, after_event, opens, is_opening}
+use Rattle.law_reports.specs.requests.world_requests.Requesting.{IsWalked, RingGoesOn}
 use Rattle.law_reports.specs.requests.Courses.{Course, NoQueue, Asks, Rests, has_queue, queue_in, tail_in, IsCourse, have_queues}
 use Rattle.law_reports.specs.requests.Coming.{IsComing}
 use Rattle.law_reports.specs.requests.QueueEvents.{course_after, courses_after, CoursesGoOn}
@@ -125,6 +126,12 @@ module _ (g : Sides) (fixed : Fixed) (takes : ℕ → ℕ → Bool) (member : �
   abbrev controlled : IsControlled opening_base member s.parts s.hand (controller_parts w)
   controlled = k.feeding.working.streaming.controlled
 
+  walked : IsWalked opening_base member s.parts s.hand (controller_parts w)
+  walked = record { ring = k.feeding.working.streaming.controlled.ring; between = k.feeding.working.streaming.controlled.between }
+
+  abbrev ring_event : RingGoesOn begins_by transacts_by opening_base member s.parts s.hand (wired fixed w) (wired fixed (controller_next fixed w)) (controller_parts (controller_next fixed w))
+  ring_event = record { now = event.now; later = event.later; ring = event.controlled.ring; effect = event.effect }
+
   pub goes : CoursesGoOn control_of member a.courses (beside fixed takes member x s w k).event.event.effect
   goes =
       event_keeps begins_by transacts_by control_of opening_base member a.courses s.parts s.hand (controller_parts w) (wired fixed w) (wired fixed new) event.now event.later event.effect
@@ -164,7 +171,7 @@ module _ (g : Sides) (fixed : Fixed) (takes : ℕ → ℕ → Bool) (member : �
       ∙ sym device.1
 
   closed : ClosedStay w.driver a.courses a.numbers (has_left g w.driver) v (after_event fixed w v)
-  closed = event_keeps_closed fixed opening_base member a.courses a.numbers (has_left g w.driver) s.parts s.hand asks w v event goes k.feeding.working.streaming.on controlled q.stand owned left_stays q.records
+  closed = event_keeps_closed fixed opening_base member a.courses a.numbers (has_left g w.driver) s.parts s.hand asks w v ring_event goes walked q.stand owned left_stays q.records
 
   -- ---- one endpoint
 
@@ -298,7 +305,7 @@ module _ (g : Sides) (fixed : Fixed) (takes : ℕ → ℕ → Bool) (member : �
           device = here.0;
           is = sym (named new) ∙ side;
           acted = subst (λ (i : ℕ). here.0.stages.acted ≡ counted_all later (numbers_of w.driver i) 0) its.number
-              (event_keeps_counts fixed opening_base member a.courses a.numbers (has_left g w.driver) s.parts s.hand asks w v event goes k.feeding.working.streaming.on controlled q.stand owned left_stays q.records n its.queue
+              (event_keeps_counts fixed opening_base member a.courses a.numbers (has_left g w.driver) s.parts s.hand asks w v ring_event goes walked q.stand owned left_stays q.records n its.queue
               (λ c at. subst (λ (u : Device). u.stages.acted ≡ counted_all v (numbers_of w.driver (a.numbers n).endpoint) 0) (same_Some h.device c (sym h.is ∙ sym (named w) ∙ at))
               (h.acted ∙ ap (λ (i : ℕ). counted_all v (numbers_of w.driver i) 0) (sym its.number)))
               here.0 side);
@@ -341,7 +348,7 @@ module _ (g : Sides) (fixed : Fixed) (takes : ℕ → ℕ → Bool) (member : �
   pub asking_beside : IsAskingWorld g fixed member (standing_after fixed takes member x s w k) (record { courses = courses_after goes.step a.courses; numbers = a.numbers }) (after_event fixed w v) asks (controller_next fixed w)
   asking_beside = record {
     stand = goes.stand;
-    records = event_keeps_records fixed opening_base member a.courses a.numbers (has_left g w.driver) s.parts s.hand asks w v event goes k.feeding.working.streaming.on controlled q.stand owned left_stays q.records;
+    records = event_keeps_records fixed opening_base member a.courses a.numbers (has_left g w.driver) s.parts s.hand asks w v ring_event goes walked q.stand owned left_stays q.records;
     each = λ e z is. course_still g w.driver e z (a.numbers (32 * z.queue)) goes.step (32 * z.queue) (a.courses (32 * z.queue)) (q.each e z is);
     asked = λ n z has there. q.asked n z (had_queues n has) there;
     publishing = λ e z is on. publishing_by e z is w.driver.command (q.publishing e z is on);

@@ -23,15 +23,13 @@ use Rattle.dev_control.specs.Stages.{Stages}
 use Rattle.claims_report.specs.Requests.{Request}
 use Rattle.law_ring.specs.Hand.{Hand}
 use Rattle.claims_base.specs.Controller.{Base}
-use Rattle.law_controller.specs.controlled_streams.Control.{IsOn, IsControlled, Controls}
 use Rattle.law_devices.specs.ring_requests.Windows.{Sent, Queue, Lines, Progress, Transaction, Advance, opened, progressed, Step}
 use Rattle.law_devices.specs.ring_requests.Runs.{first_of}
-use Rattle.law_devices.specs.control_requests.Events.{ControlWindowsGoOn}
 use Rattle.claims_report.specs.Controls.{control_of}
 use Rattle.law_devices.specs.scripted_requests.Controls.{transacts_by, begins_by}
 use Rattle.bus_world.specs.World.{World, controller_parts, controller_next}
 use Rattle.claims_world.specs.Requests.{wired, endpoint_of, Windows, side_of, acted_with, begun_by, acted_by, after_event, numbers_of}
-use Rattle.law_reports.specs.requests.world_requests.Requesting.{IsRequesting}
+use Rattle.law_reports.specs.requests.world_requests.Requesting.{IsWalked, RingGoesOn, WindowsGoOn, AreAsked}
 use Rattle.law_reports.specs.requests.world_requests.Recording.{AreTransfers, IsRecorded, AreRecorded}
 use Rattle.law_reports.proofs.lemmas.requests.lemmas.world_requests.Acting.{none_acted}
 use Rattle.law_reports.proofs.lemmas.requests.lemmas.world_requests.Following.{event_kept}
@@ -71,7 +69,7 @@ acted_same : (o : Option Device) → acted_with o o ≡ []
 acted_same None = refl
 acted_same (Some c) = none_acted c.stages
 
-module _ (fixed : Fixed) (base : Base) (member : ℕ → Bool) (courses : ℕ → Course) (numbers : ℕ → Numbers) (gone : ℕ → Bool) (parts : StructureSets) (hand : Hand) (asks : ℕ → Request) (w : World) (v : Windows) (event : Controls begins_by transacts_by base member parts hand (wired fixed w) (wired fixed (controller_next fixed w)) (controller_parts (controller_next fixed w))) (g : CoursesGoOn control_of member courses event.effect) (on : IsOn base) (controlled : IsControlled base member parts hand (controller_parts w)) (stand : CoursesStand control_of member courses parts hand (wired fixed w)) (owned : IsOwned w.driver parts) (alone : (e : ℕ) (x : DriverEndpoint) → gone e ≡ true → slice_get w.driver.endpoints e ≡ Some x → IsLeftAlone fixed w (controller_next fixed w) x) (rec : AreRecords w.driver asks courses numbers gone v) where
+module _ (fixed : Fixed) (base : Base) (member : ℕ → Bool) (courses : ℕ → Course) (numbers : ℕ → Numbers) (gone : ℕ → Bool) (parts : StructureSets) (hand : Hand) (asks : ℕ → Request) (w : World) (v : Windows) (event : RingGoesOn begins_by transacts_by base member parts hand (wired fixed w) (wired fixed (controller_next fixed w)) (controller_parts (controller_next fixed w))) (g : CoursesGoOn control_of member courses event.effect) (walked : IsWalked base member parts hand (controller_parts w)) (stand : CoursesStand control_of member courses parts hand (wired fixed w)) (owned : IsOwned w.driver parts) (alone : (e : ℕ) (x : DriverEndpoint) → gone e ≡ true → slice_get w.driver.endpoints e ≡ Some x → IsLeftAlone fixed w (controller_next fixed w) x) (rec : AreRecords w.driver asks courses numbers gone v) where
   abbrev d : DriverContent
   d = w.driver
 
@@ -105,15 +103,13 @@ module _ (fixed : Fixed) (base : Base) (member : ℕ → Bool) (courses : ℕ �
       let k : IsRecord w.driver asks n (courses n) (numbers n) v = rec.each n (asks_has (courses n) asking) in
       restricted_record d asks n (numbers n) v (courses n) asking k.numbered k.acts
 
-  requesting : IsRequesting fixed base member (are_asking courses) (queues courses) parts hand (all_lines courses) w
+  requesting : AreAsked fixed base member (are_asking courses) (queues courses) parts hand (all_lines courses) w
   requesting = record {
-    on = on;
-    are = sent_are control_of member courses parts hand (wired fixed w) stand;
-    controlled = controlled;
+    walked = walked;
     all = windows_are control_of member courses parts hand (wired fixed w) stand;
   }
 
-  abbrev windows : ControlWindowsGoOn begins_by transacts_by control_of base member (are_asking courses) (queues courses) (all_lines courses) parts hand (wired fixed w) (wired fixed (controller_next fixed w)) (controller_parts (controller_next fixed w))
+  abbrev windows : WindowsGoOn begins_by transacts_by control_of base member (are_asking courses) (queues courses) (all_lines courses) parts hand (wired fixed w) (wired fixed (controller_next fixed w)) (controller_parts (controller_next fixed w))
   windows = record { event = event; step = g.step; all = g.windows; is = g.is; halted = g.halted }
 
   -- ---- one that asks
@@ -379,13 +375,13 @@ module _ (fixed : Fixed) (base : Base) (member : ℕ → Bool) (courses : ℕ �
   counts_by n (Rests q b c) is has k = resting_counts n b q c is k
 
 pub event_keeps_records : EventKeepsRecords
-event_keeps_records fixed base member courses numbers gone parts hand asks w v event g on controlled stand owned alone rec =
-    records_after fixed base member courses numbers gone parts hand asks w v event g on controlled stand owned alone rec
+event_keeps_records fixed base member courses numbers gone parts hand asks w v event g walked stand owned alone rec =
+    records_after fixed base member courses numbers gone parts hand asks w v event g walked stand owned alone rec
 
 pub event_keeps_closed : EventKeepsClosed
-event_keeps_closed fixed base member courses numbers gone parts hand asks w v event g on controlled stand owned alone rec =
-    closed_stay fixed base member courses numbers gone parts hand asks w v event g on controlled stand owned alone rec
+event_keeps_closed fixed base member courses numbers gone parts hand asks w v event g walked stand owned alone rec =
+    closed_stay fixed base member courses numbers gone parts hand asks w v event g walked stand owned alone rec
 
 pub event_keeps_counts : EventKeepsCounts
-event_keeps_counts fixed base member courses numbers gone parts hand asks w v event g on controlled stand owned alone rec n has k =
-    counts_by fixed base member courses numbers gone parts hand asks w v event g on controlled stand owned alone rec n (courses n) refl has k
+event_keeps_counts fixed base member courses numbers gone parts hand asks w v event g walked stand owned alone rec n has k =
+    counts_by fixed base member courses numbers gone parts hand asks w v event g walked stand owned alone rec n (courses n) refl has k

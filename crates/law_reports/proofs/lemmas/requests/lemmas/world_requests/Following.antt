@@ -36,7 +36,7 @@ use Rattle.law_devices.proofs.lemmas.scripted_requests.Asking.{a_scripted_bus_an
 use Rattle.law_devices.proofs.lemmas.scripted_requests.Beginning.{keeps_devices}
 use Rattle.bus_world.specs.World.{World, controller_parts, controller_next}
 use Rattle.claims_world.specs.Requests.{wired, setup_at, endpoint_of, Windows, acted_between, opened_by, begun_by, side_of, acted_with, acted_by, after_event}
-use Rattle.law_reports.specs.requests.world_requests.Requesting.{IsRequesting, HearsBytesNow}
+use Rattle.law_reports.specs.requests.world_requests.Requesting.{IsRequesting, HearsBytesNow, IsWalked, WindowsGoOn, AreAsked}
 use Rattle.law_reports.specs.requests.world_requests.Recording.{IsNamed, IsNoSetup, AreTransfers, AreRecorded, IsRecorded, StaysRecorded}
 use Rattle.law_reports.proofs.lemmas.requests.lemmas.world_requests.Acting.{none_acted}
 use Rattle.law_reports.proofs.lemmas.requests.lemmas.world_requests.Begun.{begun_between, left_begins, same_begins, kind_begins}
@@ -58,7 +58,7 @@ data_no_setup same = cc
 status_no_setup : Status ≡ Setup → ⊥
 status_no_setup same = cc
 
-module _ (fixed : Fixed) (base : Base) (member windows : ℕ → Bool) (sent : ℕ → Queue) (parts : StructureSets) (hand : Hand) (lines : ℕ → Lines) (endpoint : ℕ → ℕ) (number : ℕ → ℕ → ℕ) (w : World) (v : Windows) (k : IsRequesting fixed base member windows sent parts hand lines w) (t : AreTransfers w.driver windows sent lines parts endpoint number) (r : IsRecorded windows sent endpoint number lines v) (g : ControlWindowsGoOn begins_by transacts_by control_of base member windows sent lines parts hand (wired fixed w) (wired fixed (controller_next fixed w)) (controller_parts (controller_next fixed w))) where
+module _ (fixed : Fixed) (base : Base) (member windows : ℕ → Bool) (sent : ℕ → Queue) (parts : StructureSets) (hand : Hand) (lines : ℕ → Lines) (endpoint : ℕ → ℕ) (number : ℕ → ℕ → ℕ) (w : World) (v : Windows) (k : AreAsked fixed base member windows sent parts hand lines w) (t : AreTransfers w.driver windows sent lines parts endpoint number) (r : IsRecorded windows sent endpoint number lines v) (g : WindowsGoOn begins_by transacts_by control_of base member windows sent lines parts hand (wired fixed w) (wired fixed (controller_next fixed w)) (controller_parts (controller_next fixed w))) where
   abbrev d : DriverContent
   d = w.driver
 
@@ -131,12 +131,12 @@ module _ (fixed : Fixed) (base : Base) (member windows : ℕ → Bool) (sent : �
   -- ---- what the event begins
 
   between : (w.control.part ≡ Asynchronous → ⊥) → w.control.walk.held ≡ None
-  between other = k.controlled.ring.held ∙ ap held_of (k.controlled.between other)
+  between other = k.walked.ring.held ∙ ap held_of (k.walked.between other)
 
   begun_is : begun_by w ≡ begun_between w.driver (held_of hand) (held_of g.event.later)
   begun_is =
-      kind_begins fixed w between ∙ ap (λ o. begun_between w.driver o (controller_next fixed w).control.walk.held) k.controlled.ring.held
-      ∙ ap (λ o. begun_between w.driver (held_of hand) o) g.event.controlled.ring.held
+      kind_begins fixed w between ∙ ap (λ o. begun_between w.driver o (controller_next fixed w).control.walk.held) k.walked.ring.held
+      ∙ ap (λ o. begun_between w.driver (held_of hand) o) g.event.ring.held
 
   none_opens : (e : ℕ) → begun_by w ≡ None → opened_by w.driver (begun_by w) v.opened e ≡ v.opened e
   none_opens e is = ap (λ (o : Option ℕ). opened_by w.driver o v.opened e) is
@@ -171,7 +171,7 @@ module _ (fixed : Fixed) (base : Base) (member windows : ℕ → Bool) (sent : �
       requests = k.all.each m.copy.at asked
 
       copied : IsCopied member parts m.copy
-      copied = subst (IsInHand member parts w.control.walk.reply) m.in_hand k.controlled.ring.in_hand
+      copied = subst (IsInHand member parts w.control.walk.reply) m.in_hand k.walked.ring.in_hand
 
       same_queue : requests.window.queue ≡ m.copy.queue
       same_queue = found_queue (parts m.copy.at m.copy.at) requests.window.queue m.copy.queue requests.window.head copied.here
@@ -266,7 +266,18 @@ recorder_follows fixed base member windows sent parts hand lines endpoint number
     let g : ControlWindowsGoOn begins_by transacts_by control_of base member windows sent lines parts hand (wired fixed w) (wired fixed new) (controller_parts new) =
     an_event_keeps_the_windows begins_by transacts_by control_of base member windows sent lines parts hand (controller_parts w) (wired fixed w) (controller_parts new) (wired fixed new)
     k.are a_scripted_bus_answers_by_stages keeps_devices k.controlled k.on k.all (heard (wired fixed new)) (world_has_row fixed w) in
+    let asked : AreAsked fixed base member windows sent parts hand lines w =
+    record { walked = record { ring = k.controlled.ring; between = k.controlled.between }; all = k.all } in
+    let goes : WindowsGoOn begins_by transacts_by control_of base member windows sent lines parts hand (wired fixed w) (wired fixed new)
+    (controller_parts new) =
+    record {
+      event = record { now = g.event.now; later = g.event.later; ring = g.event.controlled.ring; effect = g.event.effect };
+      step = g.step;
+      all = g.all;
+      is = g.is;
+      halted = g.halted;
+    } in
     record {
       stays = record { parts = g.event.now; hand = g.event.later; step = g.step; requesting = record { on = k.on; are = k.are; controlled = g.event.controlled; all = g.all }; halted = g.halted };
-      recorded = event_kept fixed base member windows sent parts hand lines endpoint number w v k t r g g.event.effect g.is;
+      recorded = event_kept fixed base member windows sent parts hand lines endpoint number w v asked t r goes g.event.effect g.is;
     }
