@@ -32,6 +32,7 @@ pub mod Has
 pub mod Footing
 pub mod Relinking
 pub mod Names
+pub mod Assembled
 pub mod Controller
 pub mod Still
 pub mod NewWorld
@@ -80,6 +81,11 @@ pub mod Driving
 pub mod Commanded
 pub mod Together
 pub mod HighFooting
+pub mod HighWindows
+pub mod HighDevices
+pub mod HighRing
+pub mod HighFrames
+pub mod HighController
 pub mod HighAlike
 pub mod HighRelinked
 pub mod HighLines

@@ -3,6 +3,7 @@
 -- 4.10; USB 2.0, 8.5.3).
 --     NewWorldHighAsks          before the first line there is none
 --     DriverKeepsHighAsks       each event of the driver
+--     ControllerKeepsHighAsks   each event of the controller
 --     CommandKeepsHighAsks      each command
 use Rattle.std.specs.Prelude.{ℕ}
 use Rattle.usb_base.specs.declared.commands.Cmd.{Cmd}
@@ -10,9 +11,9 @@ use Rattle.script_types.specs.declared.scripts.Script.{Script}
 use Rattle.script_fits.specs.Fits.{IsFit}
 use Rattle.bus_wire.specs.Bus.{Fixed, fixed_of}
 use Rattle.bus_world.specs.Opening.{opening_world}
-use Rattle.bus_world.specs.World.{World, driver_next, commanded}
+use Rattle.bus_world.specs.World.{World, driver_next, controller_next, commanded}
 use Rattle.claims_report.specs.Requests.{Request}
-use Rattle.claims_world.specs.Requests.{Windows, no_windows, no_asks, asks_then}
+use Rattle.claims_world.specs.Requests.{Windows, no_windows, no_asks, asks_then, after_event}
 use Rattle.drv_table.specs.Offers.{IsOffered}
 use Rattle.law_scripts.specs.byte_answers.Bytes.{IsByteCommand, IsByteScript}
 use Rattle.law_world.specs.memory.Opens.{OpensMixed}
@@ -30,6 +31,11 @@ abbrev pub DriverKeepsHighAsks : Type 0
 DriverKeepsHighAsks = (g : Sides) (fixed : Fixed) (x : Pipes) (v : Windows) (asks : ℕ → Request) (w : World)
     → HasHighAsks g fixed x v asks w
     → HasHighAsks g fixed x v asks (driver_next w)
+
+abbrev pub ControllerKeepsHighAsks : Type 0
+ControllerKeepsHighAsks = (g : Sides) (fixed : Fixed) (x : Pipes) (v : Windows) (asks : ℕ → Request) (w : World)
+    → HasHighAsks g fixed x v asks w
+    → HasHighAsks g fixed x (after_event fixed w v) asks (controller_next fixed w)
 
 abbrev pub CommandKeepsHighAsks : Type 0
 CommandKeepsHighAsks = (g : Sides) (fixed : Fixed) (x : Pipes) (v : Windows) (asks : ℕ → Request) (w : World) (line : ℕ) (cmd : Cmd)

@@ -5,7 +5,7 @@ ghost use Rattle.usb_base.specs.declared.packets.Speed.TheVariants.{Low};
 ghost use Rattle.law_devices.specs.declared_controls.Samples.{zero};
 ghost use Rattle.law_reports.specs.requests.HighAsking.{IsSuited};
 ghost use Rattle.law_reports.specs.requests.HighGiven.{high_sides_of, SuitsLine, TextsSuit, beat, beside_interrupt};
-ghost use Rattle.law_reports.specs.requests.HighLaws.{NewWorldHighAsks, DriverKeepsHighAsks, CommandKeepsHighAsks};
+ghost use Rattle.law_reports.specs.requests.HighLaws.{NewWorldHighAsks, DriverKeepsHighAsks, ControllerKeepsHighAsks, CommandKeepsHighAsks};
 
 /// Before the first line of a script there is no request.
 pub fn new_world_has_high_asks()
@@ -15,6 +15,11 @@ pub fn new_world_has_high_asks()
 /// Each event of the driver leaves the requests of control endpoints at high speed as they must stand, whatever else is open.
 pub fn driver_keeps_high_asks()
     ensures { DriverKeepsHighAsks }
+{}
+
+/// So does each event of the controller, of the ring or of the frames, with what the run records of the requests.
+pub fn controller_keeps_high_asks()
+    ensures { ControllerKeepsHighAsks }
 {}
 
 /// So does each command, accepted or refused.

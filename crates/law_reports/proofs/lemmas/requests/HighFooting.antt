@@ -165,7 +165,7 @@ module _ (s : Standing) (w : World) (k : IsMixedAt s w) where
 
 module _ (g : Sides) (fixed : Fixed) (x : Pipes) (s : Standing) (m : Lines) (h : Heads) (w : World) (k : IsPiped fixed x s m h w)
     (head : h.ends (32 * head_block) ≡ endpoint_of opening_head) (suited : AreSuited g w.driver) where
-  real_control : (e : ℕ) (y : Endpoint) → slice_get w.driver.endpoints e ≡ Some y → is_control (queued_endpoint y).desc.kind ≡ true
+  pub real_control : (e : ℕ) (y : Endpoint) → slice_get w.driver.endpoints e ≡ Some y → is_control (queued_endpoint y).desc.kind ≡ true
       → is_control y.desc.kind ≡ true
   real_control e y here on =
       sym (same_control y.desc.name.way y.desc.kind (k.mixed.turns.kinds_fit e y here)) ∙ sym (by (is_iso y.desc.kind) refl) ∙ on

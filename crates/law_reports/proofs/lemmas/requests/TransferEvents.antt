@@ -65,7 +65,7 @@ module _ (d : DriverContent) (asks : ℕ → Request) (n : ℕ) (a : Numbers) wh
   restricted_record v (Asks q b l) on k r = let few = k.ahead.few in record { begun = r.begun; behind = λ i after less. r.behind i after (omega (arith, less, few)); is_open = r.is_open }
   restricted_record v _ on k r = absurd (false≢true on)
 
-acted_same : (o : Option Device) → acted_with o o ≡ []
+pub acted_same : (o : Option Device) → acted_with o o ≡ []
 acted_same None = refl
 acted_same (Some c) = none_acted c.stages
 
