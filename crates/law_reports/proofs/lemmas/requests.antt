@@ -101,3 +101,5 @@ pub mod HighWorld
 pub mod HighOpening
 pub mod HighGiven
 pub mod HighLeft
+pub mod HighOpened
+pub mod HighMoments

@@ -6,6 +6,7 @@ ghost use Rattle.law_devices.specs.declared_controls.Samples.{zero};
 ghost use Rattle.law_reports.specs.requests.HighAsking.{IsSuited};
 ghost use Rattle.law_reports.specs.requests.HighGiven.{high_sides_of, SuitsLine, TextsSuit, beat, beside_interrupt};
 ghost use Rattle.law_reports.specs.requests.HighLaws.{NewWorldHighAsks, DriverKeepsHighAsks, ControllerKeepsHighAsks, CommandKeepsHighAsks};
+ghost use Rattle.law_reports.specs.requests.HighLaws.{TextsHaveHighAsks};
 
 /// Before the first line of a script there is no request.
 pub fn new_world_has_high_asks()
@@ -25,6 +26,11 @@ pub fn controller_keeps_high_asks()
 /// So does each command, accepted or refused.
 pub fn command_keeps_high_asks()
     ensures { CommandKeepsHighAsks }
+{}
+
+/// So it is at each moment of each script that a text spells.
+pub fn texts_have_high_asks()
+    ensures { TextsHaveHighAsks }
 {}
 
 /// Each command of each text suits: the endpoint that it opens has a name of its kind, and stands behind a hub just where it isn't of high
