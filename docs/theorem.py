@@ -82,7 +82,7 @@ SAYS = {
     "misses": "At each moment each line that tells a missed microframe is of an endpoint at low or full speed, whatever a script loses, holds and asks.",
     "errors": "Where no line of a script loses or damages a packet between the controller and a hub or a device at high speed, and no interrupt endpoint at high speed ever answers with NYET: at each moment each line "
               "that tells `halt error` is of an endpoint at low or full speed, whatever is lost below translators, and whatever the script holds, cancels and asks of hubs.",
-    "requests": "Where a script opens high-speed bulk and control endpoints alone: at each moment a device that is no hub acted on each control request at most once, and on nothing but its setup bytes; "
+    "requests": "Whatever a script opens: at each moment a device that is no hub acted on each request of its control endpoint at high speed at most once, and on nothing but its setup bytes; "
                 "of an endpoint that isn't cancelled a request that is told done was acted on exactly once, with all its data, and one that halted tells a beginning of them.",
     "answers": "At each command of a script: it is refused for the first cause that stands, in the order busy, no endpoint, closed, already open, too long, no placement, no blocks (with the run of blocks that isn't there, and the longest that is), "
                "one line tells this and nothing else changes; or none of them stands, and it is accepted, without a line. Then it adds what it asks for, and changes nothing else of endpoints and transfers: one endpoint of its description; one transfer of its endpoint, whose qTDs have just its bytes, none of them moved; "

@@ -1,8 +1,9 @@
--- Where the endpoints that a script opens are high-speed bulk and control endpoints, at each moment of its run each device acted at most
--- once on each control request, and only on its setup bytes; of an endpoint that isn't cancelled the report tells of its requests in their
+-- Whatever endpoints a script opens, at each moment of its run each device acted at most once on each request of a control endpoint at high
+-- speed, and only on its setup bytes; of an endpoint that isn't cancelled the report tells of its requests in their
 -- order: a request that is done was acted on exactly once, and the bytes told of it are those of its data; those of one that halted begin
 -- its data; and `acted` is told as the number of requests that were acted on. After the run these are all its requests. Of a hub's own
--- control endpoint nothing is said: a hub answers by its own state, and not by lines of the script (EHCI 1.0, 4.10; USB 2.0, 8.5.3).
+-- control endpoint nothing is said: a hub answers by its own state, and not by lines of the script; nor of one below a hub's translator
+-- (EHCI 1.0, 3.5 and 4.10; USB 2.0, 5.5, 8.5.3 and 11.17).
 --     opens command b            the unfinished command opens the endpoint with its queue head in block b
 --     is_opening d x             endpoint x is being opened: its queue head isn't in the ring yet
 --     setup_at d a               the number of the first request of the driver that isn't given back and whose first qTD stands at a
@@ -21,7 +22,7 @@
 --     AreOnce asks v d e         in each window of the endpoint's transfers the device acted at most once, and on nothing but the setup
 --                                bytes
 --     IsOpenControl d e x        endpoint e of the driver is x, a control endpoint that was opened
---     IsOfDevice s k e x         .. at moment k, of a device that is no hub
+--     IsOfDevice s k e x         .. at moment k, at high speed, of a device that is no hub
 --     windows_then s k e         the windows of its transfers at moment k, each with its request and the acts of the device
 --     RequestsAreKept s k e x    in each of them the device acted at most once, and on nothing but the setup bytes of the request; the
 --                                lines tell of them, in their order: a request that is done was acted on exactly once, and the bytes of its
@@ -33,6 +34,7 @@ use Rattle.std.specs.List.{AllByRecursion}
 use Rattle.std.specs.Prelude.{◌≡◌, ℕ, zero, suc, ◌*◌, Bool, ◌==◌, true, ◌&&◌, not, false, List, [], position, ◌++◌, ◌∷◌, length, filter, slice_get, map, Option, Some, if◌then◌else◌, None, option_map}
 use Rattle.usb_base.specs.declared.commands.Cmd.{Cmd}
 use Rattle.usb_base.specs.declared.commands.Cmd.TheVariants as commands
+use Rattle.usb_base.specs.declared.packets.Speed.TheVariants.{High}
 use Rattle.script_types.specs.declared.scripts.Event.{Event}
 use Rattle.script_types.specs.declared.scripts.Event.TheVariants as events
 use Rattle.script_types.specs.declared.scripts.Script.{Script}
@@ -232,6 +234,7 @@ pub record RequestsAreKept (s : Script) (k e : ℕ) (x : Endpoint) : Type 0 wher
 
 pub record IsOfDevice (s : Script) (k e : ℕ) (x : Endpoint) : Type 0 where
   pub opened : IsOpenControl (moment s k).world.driver e x
+  pub high : x.desc.speed ≡ High
   pub device : is_of_hub s x.desc.name.addr ≡ false
 
 pub record KeepsRequests (s : Script) : Type 0 where

@@ -30,7 +30,6 @@ ghost use Rattle.claims_world.specs.Unfinished.{KeepsToWork};
 ghost use Rattle.claims_world.specs.Microframes.{MicroframesEnd};
 ghost use Rattle.claims_world.specs.Requests.{KeepsRequests};
 ghost use Rattle.app_forms.specs.Scripts.{OfEachScript};
-ghost use Rattle.claims_world.specs.Scripts.{WhereAsynchronous};
 ghost use Rattle.claims_world.specs.BelowStreams.{KeepsStreams};
 ghost use Rattle.claims_world.specs.Ends.{EndsOnce};
 ghost use Rattle.claims_world.specs.Misses.{MissesAreBelowThroughout};
@@ -200,7 +199,7 @@ pub fn ehci<S: Source, K: Sink>(
     ensures ends { OfEachScript EndsOnce (map string_bytes words.now) (S.left source.old) }
     ensures misses { OfEachScript MissesAreBelowThroughout (map string_bytes words.now) (S.left source.old) }
     ensures errors { OfEachScript (WhereHeardAbove ErrorsAreBelowThroughout) (map string_bytes words.now) (S.left source.old) }
-    ensures requests { OfEachScript (WhereAsynchronous KeepsRequests) (map string_bytes words.now) (S.left source.old) }
+    ensures requests { OfEachScript KeepsRequests (map string_bytes words.now) (S.left source.old) }
     ensures answers { OfEachScript CommandsHaveCauses (map string_bytes words.now) (S.left source.old) }
     ensures hears { OfEachScript HearsThroughout (map string_bytes words.now) (S.left source.old) }
     ensures works { OfEachScript RestsThroughout (map string_bytes words.now) (S.left source.old) }

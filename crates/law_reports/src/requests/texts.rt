@@ -17,14 +17,15 @@ pub fn scripts_stay_asking()
     ensures { ScriptsStayAsking }
 {}
 
-/// Of each text that opens high-speed bulk and control endpoints: in the window of each control request a device that is no hub acts at most once, and on nothing but its
-/// setup bytes. A request that is reported done was acted on exactly once, and the bytes that are told are its data; at the end all that the text asks for is told.
+/// Of each text, whatever it opens: in the window of each request of a control endpoint at high speed a device that is no hub acts at most
+/// once, and on nothing but its setup bytes. A request that is reported done was acted on exactly once, and the bytes that are told are its
+/// data; at the end all that the text asks for is told.
 pub fn texts_keep_requests()
     ensures { TextsKeepRequests }
 {}
 
-/// A script that opens a device's control endpoint, a bulk one and a hub's own is one of these: of the requests of the device all this is
-/// said, and not of the hub's.
+/// So it is of a script that opens a device's control endpoint, a bulk one and a hub's own: of the requests of the device all this is said,
+/// and not of the hub's.
 pub fn a_hub_beside_a_device()
     ensures only { AsynchronousOnly beside_bulk }
     ensures of_device { is_of_device beside_bulk zero ≡ true }

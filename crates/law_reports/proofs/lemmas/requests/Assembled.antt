@@ -2,10 +2,10 @@
 -- requests so.
 use Rattle.std.proofs.Common.{◌≡◌, ℕ, ◌*◌, ◌≤◌, Bool, true, false, not, List, slice_get, Option, Some, ap, refl, sym, subst, ◌∙◌}
 use Rattle.std.specs.List.{AllByRecursion}
-use Rattle.std.proofs.lemmas.Bool.{false≢true, true≢false, and_from, and_parts}
+use Rattle.std.proofs.lemmas.Bool.{false≢true, true≢false, and_from}
 use Rattle.std.proofs.lemmas.Option.{same_Some}
 use Rattle.law_reports.proofs.Common.{queue_still, has_still}
-use Rattle.law_world.proofs.Common2.{opens_is, opened_is}
+use Rattle.law_world.proofs.Common2.{opens_is}
 use Rattle.word_mem.specs.Memory.{word_at, reaches}
 use Rattle.qh_qtd.specs.declared.qtd.Qtd.{Qtd}
 use Rattle.usb_base.specs.declared.packets.Ask.{Ask}
@@ -19,7 +19,6 @@ use Rattle.drv_table.specs.declared.content.Transfer.{Transfer}
 use Rattle.drv_table.specs.DriverContent.{DriverContent}
 use Rattle.drv_table.specs.Harvests.{note_at}
 use Rattle.law_driver_ring.proofs.Stays.{written_stays}
-use Rattle.law_driver_ring.specs.fed_queues.Places.{IsMet}
 use Rattle.law_driver_ring.specs.told_harvests.Held.{IsDone}
 use Rattle.law_driver.specs.endpoint_lives.Lives.{may_meet}
 use Rattle.law_world.proofs.lemmas.steps.lemmas.left_queues.Unmet.{near_kept}
@@ -70,7 +69,7 @@ pub record RequestsGoOn (g : Sides) (fixed : Fixed) (member : ℕ → Bool) (par
   pub counts : (n : ℕ) → have_queues a.courses n ≡ true
       → Counts (side_at fixed w (a.courses n)) (counted_all v (numbers_of w.driver (a.numbers n).endpoint) 0)
       → Counts (side_at fixed (controller_next fixed w) (a.courses n))
-          (counted_all (after_event fixed w v) (numbers_of w.driver (a.numbers n).endpoint) 0)
+      (counted_all (after_event fixed w v) (numbers_of w.driver (a.numbers n).endpoint) 0)
   -- the devices of those of whose queues nothing more is told
   pub left : (e : ℕ) (z : DriverEndpoint) → has_left g w.driver e ≡ true → slice_get w.driver.endpoints e ≡ Some z
       → IsLeftAlone fixed w (controller_next fixed w) z

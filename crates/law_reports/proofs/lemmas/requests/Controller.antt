@@ -1,39 +1,19 @@
 -- Each event of the controller leaves the requests of a world as they must stand.
-use Rattle.std.proofs.Common.{◌≡◌, ℕ, ◌*◌, ◌≤◌, Bool, true, false, not, List, slice_get, Option, Some, ap, refl, sym, subst, ◌∙◌}
-use Rattle.std.specs.List.{AllByRecursion}
-use Rattle.std.proofs.lemmas.Bool.{false≢true, true≢false, and_from, and_parts}
+use Rattle.std.proofs.Common.{◌≡◌, ℕ, ◌*◌, ◌≤◌, Bool, true, not, slice_get, Some, ap, sym, ◌∙◌}
+use Rattle.std.proofs.lemmas.Bool.{true≢false, and_parts}
 use Rattle.std.proofs.lemmas.Option.{same_Some}
-use Rattle.law_reports.proofs.Common.{queue_still, has_still}
-use Rattle.law_world.proofs.Common2.{opens_is, opened_is}
-use Rattle.usb_base.specs.declared.packets.Ask.{Ask}
-use Rattle.usb_base.specs.declared.packets.Reply.{Reply}
+use Rattle.law_world.proofs.Common2.{opened_is}
 use Rattle.bus_wire.specs.Bus.{Fixed}
-use Rattle.claims_driver.specs.Owners.{runs_of_transfer, runs_of_endpoint}
-use Rattle.hc_core.specs.Controller.{Content}
-use Rattle.drv_table.specs.declared.content.Command.{Command}
 use Rattle.drv_table.specs.declared.content.Endpoint.{Endpoint as DriverEndpoint}
-use Rattle.drv_table.specs.declared.content.Transfer.{Transfer}
 use Rattle.drv_table.specs.DriverContent.{DriverContent}
-use Rattle.drv_table.specs.Harvests.{note_at}
 use Rattle.drv_table.specs.Words.{head_block, opening_head}
-use Rattle.claims_base.specs.Controller.{opening_base, Base}
-use Rattle.law_driver_ring.proofs.Stays.{written_stays}
+use Rattle.claims_base.specs.Controller.{opening_base}
 use Rattle.law_driver_ring.specs.fed_queues.Places.{IsMet}
 use Rattle.law_driver.specs.endpoint_lives.Lives.{may_meet}
-use Rattle.law_world.proofs.lemmas.steps.lemmas.left_queues.Unmet.{near_kept}
-use Rattle.law_structures.specs.lent_structures.Structures.{StructureSets}
 use Rattle.claims_report.specs.Requests.{Request}
-use Rattle.law_request.specs.Host.{Endpoint}
 use Rattle.claims_report.specs.ControlSides.{Device}
-use Rattle.law_reports.specs.requests.request_bytes.Held.{RequestIsHeld}
-use Rattle.law_reports.proofs.lemmas.requests.lemmas.request_bytes.Accepting.{held_request_stays}
-use Rattle.law_driver_ring.specs.told_harvests.Held.{IsDone}
-use Rattle.law_driver_ring.proofs.lemmas.told_harvests.Keeping.{events_keep_what_is_done}
-use Rattle.law_ring.specs.Hand.{Hand}
 use Rattle.law_ring.specs.Told.{endpoint_of}
-use Rattle.law_devices.specs.ring_requests.Windows.{Queue, Step}
-use Rattle.law_controller.specs.controlled_streams.Control.{IsControlled, ControlEffect, a_microframe, a_step, Controls}
-use Rattle.law_controller.specs.controlled_streams.Kept.{KeepsEach}
+use Rattle.law_controller.specs.controlled_streams.Control.{IsControlled, Controls}
 use Rattle.law_controller.proofs.lemmas.controlled_streams.Events.{control_keeps}
 use Rattle.law_controller.specs.controller_writes.Leaving.{LeavesRest}
 use Rattle.law_controller.proofs.lemmas.controller_writes.Controlling.{each_event_leaves_the_rest as memory_leaves}
@@ -46,31 +26,23 @@ use Rattle.bus_world.specs.World.{World, controller_parts, controller_next}
 use Rattle.law_world.specs.steps.Streaming.{Streams, Standing}
 use Rattle.law_world.proofs.lemmas.steps.StreamTurning.{world_has_row}
 use Rattle.law_world.proofs.lemmas.steps.lemmas.world_bytes.Hearing.{a_bus_of_bytes_is_heard_as_bytes}
-use Rattle.claims_world.specs.Requests.{wired, Windows, numbers_of, after_event, opens, is_opening}
+use Rattle.claims_world.specs.Requests.{wired, Windows, after_event, opens}
 use Rattle.law_reports.specs.requests.world_requests.Requesting.{IsWalked, RingGoesOn}
-use Rattle.law_reports.specs.requests.Courses.{Course, NoQueue, Asks, Rests, has_queue, queue_in, tail_in, IsCourse, have_queues}
-use Rattle.law_reports.specs.requests.Coming.{IsComing}
-use Rattle.law_reports.specs.requests.QueueEvents.{course_after, courses_after, CoursesGoOn}
+use Rattle.law_reports.specs.requests.Courses.{have_queues}
+use Rattle.law_reports.specs.requests.QueueEvents.{courses_after, CoursesGoOn}
 use Rattle.law_reports.proofs.lemmas.requests.QueueEvents.{event_keeps, event_leaves}
 use Rattle.law_reports.proofs.lemmas.requests.Coming.{event_coming}
-use Rattle.law_reports.specs.requests.Records.{Numbers}
-use Rattle.law_reports.specs.requests.Counts.{counted_all}
 use Rattle.law_reports.specs.requests.TransferEvents.{IsLeftAlone, IsOwned, ClosedStay}
-use Rattle.law_reports.proofs.lemmas.requests.Counts.{counted_same}
 use Rattle.law_reports.proofs.lemmas.requests.TransferEvents.{event_keeps_records, event_keeps_closed, event_keeps_counts}
-use Rattle.law_reports.proofs.lemmas.requests.Telling.{acts_keep_telling, split}
 use Rattle.law_world.specs.streams.Whole.{IsWhole}
 use Rattle.law_world.proofs.lemmas.streams.Beside.{beside, after_event as standing_after, whole_beside}
-use Rattle.law_reports.specs.requests.Asking.{Sides, Asking, has_left, left_with, HasCourse, IsWritten, IsHeldRequest, IsPublishingAt, IsPublishingBy, IsReadTo, HasTelling, IsCounted, IsControlOf, IsMetControl, IsAskingWorld}
+use Rattle.law_reports.specs.requests.Asking.{Sides, Asking, has_left, IsControlOf, IsAskingWorld}
 use Rattle.law_reports.specs.requests.AskingLaws.{ControllerKeepsAsking}
 use Rattle.law_reports.proofs.lemmas.requests.Has.{asking_of}
 use Rattle.law_reports.proofs.lemmas.requests.Names.{left_is, not_met, has_device}
-use Rattle.law_reports.specs.requests.Missed.{NoneMissed, MissesNone}
-use Rattle.law_reports.proofs.lemmas.requests.Missed.{walk_misses_none, narrow_unmissed, narrow_misses}
 use Rattle.law_reports.specs.requests.Footing.{IsFooting}
 use Rattle.law_reports.proofs.lemmas.requests.Assembled.{RequestsGoOn, done_still, event_unmissed, assembled}
 use Rattle.law_reports.proofs.lemmas.requests.Footing.{footing}
-use Rattle.drv_table.specs.declared.content.Command.TheVariants as unfinished
 
 -- ---- the event
 

@@ -1,5 +1,5 @@
--- Each event of the controller leaves the requests of control endpoints at high speed as they must stand, in a world with endpoints of every
--- kind.
+-- Each event of the controller leaves the requests of control endpoints at high speed as they must stand, in a world with endpoints of
+-- every kind.
 use Rattle.std.proofs.Common.{◌≡◌, ℕ, ◌*◌, subst}
 use Rattle.bus_wire.specs.Bus.{Fixed}
 use Rattle.drv_table.specs.Words.{head_block, opening_head}
@@ -20,7 +20,7 @@ use Rattle.law_reports.proofs.lemmas.pipes.Controlled.{c, controlled, lines_then
 use Rattle.law_reports.specs.requests.Asking.{Sides, Asking, AsksIn, HasAsks}
 use Rattle.law_reports.specs.requests.Footing.{IsFooting}
 use Rattle.law_reports.specs.requests.QueueEvents.{courses_after}
-use Rattle.law_reports.specs.requests.HighAsking.{told_world, told_standing, told_streams, AreSuited, AsksAt, HasHighAsks}
+use Rattle.law_reports.specs.requests.HighAsking.{told_world, told_standing, told_streams, AreSuited, AsksAt}
 use Rattle.law_reports.specs.requests.HighLaws.{ControllerKeepsHighAsks}
 use Rattle.law_reports.proofs.lemmas.requests.Assembled.{RequestsGoOn, assembled}
 use Rattle.law_reports.proofs.lemmas.requests.HighFooting.{high_footing}
@@ -35,7 +35,7 @@ module _ (g : Sides) (fixed : Fixed) (x : Pipes) (s : Standing) (m : Lines) (h :
       (wired fixed (controller_next fixed w)) (c fixed x s m h w k).event.now (c fixed x s m h w k).event.later
       (c fixed x s m h w k).event.frame_later
       → RequestsGoOn g fixed s.near s.parts s.hand a v asks (told_world w) (now g fixed x s m h w k f head suited a v asks q)
-          (later g fixed x s m h w k f head suited a v asks q)
+      (later g fixed x s m h w k f head suited a v asks q)
   goes_on (of_ring e nothing) = ring_goes_on g fixed x s m h w k f head suited a v asks q e
   goes_on (of_frame e) = frame_goes_on g fixed x s m h w k f head suited a v asks q e
 

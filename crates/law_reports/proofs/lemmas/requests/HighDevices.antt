@@ -1,6 +1,6 @@
 -- At each event of the controller, in a world with endpoints of every kind, the device of an endpoint stays as it is where no queue head
 -- asks it, and no isochronous transaction.
-use Rattle.std.proofs.Common.{◌≡◌, ℕ, ◌*◌, ◌≤◌, Bool, true, false, not, slice_get, Option, Some, ap, refl, sym, subst, ◌∙◌}
+use Rattle.std.proofs.Common.{◌≡◌, ℕ, ◌*◌, ◌≤◌, true, not, slice_get, Some, ap, refl, sym, ◌∙◌}
 use Rattle.std.proofs.lemmas.Bool.{false≢true, true≢false, and_parts}
 use Rattle.std.proofs.lemmas.Option.{same_Some}
 use Rattle.law_world.proofs.Common2.{opened_is}
@@ -20,16 +20,15 @@ use Rattle.law_driver.specs.queued_drivers.Queued.{queued_endpoint, queued}
 use Rattle.law_driver.proofs.lemmas.queued_drivers.CommandFields.{name_same}
 use Rattle.usb_base.specs.declared.endpoints.EpName.{EpName}
 use Rattle.law_driver_ring.specs.fed_queues.Places.{IsMet}
-use Rattle.law_structures.specs.lent_structures.Structures.{StructureSets}
 use Rattle.law_ring.specs.Hand.{Hand}
 use Rattle.law_ring.specs.Effects.{Asks}
 use Rattle.law_ring.specs.Streams.StreamEffect.{same, aside, grows}
 use Rattle.law_ring.specs.Told.{endpoint_of}
 use Rattle.law_controller.specs.frame_control.Joined.{joined, begun, moved}
 use Rattle.law_frames.specs.FrameStreams.{IsIsoAsk, of_itd, of_sitd}
-use Rattle.law_descriptors.specs.Both.{both, parts_now}
+use Rattle.law_descriptors.specs.Both.{both}
 use Rattle.law_devices.specs.request_calls.Bus.{IsAskFor}
-use Rattle.law_devices.specs.scripted_requests.Controls.{transacts_by, begins_by}
+use Rattle.law_devices.specs.scripted_requests.Controls.{transacts_by}
 use Rattle.law_devices.proofs.lemmas.scripted_requests.Asking.{a_scripted_bus_answers_by_stages}
 use Rattle.law_devices.proofs.lemmas.scripted_requests.Beginning.{keeps_devices}
 use Rattle.law_microframes.proofs.lemmas.visits.AskedHeads.{asked_is_near}
@@ -37,7 +36,7 @@ use Rattle.law_microframes.specs.visits.WorldPipes.{EventOf}
 use Rattle.claims_report.specs.ControlSides.{Device}
 use Rattle.claims_report.specs.Controls.{control_of}
 use Rattle.claims_report.specs.Requests.{Request}
-use Rattle.claims_world.specs.Requests.{wired, Windows, opens, is_opening}
+use Rattle.claims_world.specs.Requests.{wired, Windows, opens}
 use Rattle.bus_world.specs.World.{World, controller_next}
 use Rattle.law_world.specs.memory.Mixed.{Standing}
 use Rattle.law_reports.specs.lines.Lined.{Lines}
@@ -48,7 +47,6 @@ use Rattle.law_reports.proofs.lemmas.pipes.IsoBeside.{IsNamedIso, itd_named, sit
 use Rattle.law_reports.specs.requests.Asking.{Sides, Asking, has_left, IsUnopened}
 use Rattle.law_reports.specs.requests.Footing.{IsFooting}
 use Rattle.law_reports.specs.requests.HighAsking.{told_world, told_standing, told_streams, AreSuited, AsksAt}
-use Rattle.law_reports.specs.requests.TransferEvents.{IsLeftAlone}
 use Rattle.law_reports.proofs.lemmas.requests.HighFooting.{real_control}
 use Rattle.law_reports.proofs.lemmas.requests.Names.{left_is, not_met, has_device}
 
@@ -118,7 +116,8 @@ module _ (fixed : Fixed) (x : Pipes) (s : Standing) (m : Lines) (h : Heads) (w :
         device_waits addr num d none
         (λ q address number.
         not_met s.near (told_streams s) (told_standing s m) (told_world w) f addr num least unmet q.copy.at (endpoint_of q.copy.queue)
-        (asked_is_near s w k.mixed q.copy q.in_hand q.here q.works) (record { queue = q.copy.queue; head = q.here; is = refl }) address number)
+        (asked_is_near s w k.mixed q.copy q.in_hand q.here q.works) (record { queue = q.copy.queue; head = q.here; is = refl }) address
+        number)
         is
 
     -- while it is opened none is met, and none is isochronous
@@ -151,8 +150,8 @@ module _ (fixed : Fixed) (x : Pipes) (s : Standing) (m : Lines) (h : Heads) (w :
           let name : u.desc.name ≡ t.desc.name = name_same t in
           let at : e ≡ i = f.apart e i y u here on (get_queued w.driver.endpoints i t there) (ap (λ (n : EpName). n.addr) name ∙ address)
           (ap (λ (n : EpName). n.num) name ∙ number) in
-          let one : y ≡ u = same_Some y u (sym here ∙ ap (slice_get (queued w.driver).endpoints) at ∙ get_queued w.driver.endpoints i t there)
-          in
+          let one : y ≡ u = same_Some y u
+          (sym here ∙ ap (slice_get (queued w.driver).endpoints) at ∙ get_queued w.driver.endpoints i t there) in
           control_iso t.desc.kind
           (real_control g fixed x s m h w k head suited i t there (ap (λ (b : Endpoint). is_control b.desc.kind) (sym one) ∙ on)) iso
 

@@ -1,28 +1,24 @@
--- An event of the frames, in a world with endpoints of every kind: it leaves the queues of control endpoints, their devices and their windows
--- as they are.
-use Rattle.std.proofs.Common.{◌≡◌, ◌≢◌, ℕ, ◌*◌, ◌<◌, ◌≤◌, Bool, true, false, List, [], slice_get, Option, Some, None, ap, refl, sym, subst, ◌∙◌}
-use Rattle.std.proofs.Common.{if◌then◌else◌, arith}
+-- An event of the frames, in a world with endpoints of every kind: it leaves the queues of control endpoints, their devices and their
+-- windows as they are.
+use Rattle.std.proofs.Common.{◌≡◌, ℕ, ◌*◌, ◌<◌, ◌≤◌, Bool, true, false, List, [], slice_get, Option, Some, None, ap, refl}
+use Rattle.std.proofs.Common.{sym, subst, ◌∙◌, if◌then◌else◌, arith}
 use Rattle.std.specs.List.{AllByRecursion}
 use Rattle.std.proofs.lemmas.Bool.{false≢true, true≢false}
 use Rattle.std.proofs.lemmas.Option.{same_Some}
-use Rattle.law_reports.proofs.Common.{of_transfer, queue_still, has_still}
+use Rattle.law_reports.proofs.Common.{of_transfer}
 use Rattle.bus_wire.specs.Bus.{Wired, Fixed}
-use Rattle.qh_qtd.specs.declared.queue_head.Qh.{Qh}
 use Rattle.hc_copy.specs.declared.held.Held.{Held}
-use Rattle.hc_core.specs.Controller.{walk_place}
 use Rattle.claims_base.specs.Controller.{opening_base}
 use Rattle.drv_table.specs.declared.content.Endpoint.{Endpoint}
-use Rattle.drv_table.specs.Words.{is_control, head_block, opening_head}
-use Rattle.dev_control.specs.Stages.{Stages}
+use Rattle.drv_table.specs.Words.{head_block, opening_head}
 use Rattle.law_driver.specs.queued_drivers.Queued.{queued}
 use Rattle.law_driver_ring.specs.told_harvests.Held.{IsDone}
 use Rattle.law_structures.specs.lent_structures.Structures.{Structures, StructureSets}
 use Rattle.law_ring.specs.Hand.{Copy, Hand, Copied, held_of}
-use Rattle.law_ring.specs.Effects.{buffer_of, Asks}
-use Rattle.law_ring.specs.Ring.{IsRing}
+use Rattle.law_ring.specs.Effects.{buffer_of}
 use Rattle.law_ring.specs.Sparing.{SameHand}
 use Rattle.law_ring.specs.Told.{Told, hand_bytes, hand_toggle, HasEndpoint, Endpoint as Characteristics, endpoint_of}
-use Rattle.law_frames.specs.Met.{Kind, AQueue}
+use Rattle.law_frames.specs.Met.{AQueue}
 use Rattle.law_frames.specs.FrameHand.{FrameHand, Nothing, OfQueue, OfSettled, OfItd, OfSitd}
 use Rattle.law_frames.specs.Frame.{IsCopiedQueue, IsInFrame}
 use Rattle.law_frames.proofs.Leaving.{frame_leaves}
@@ -31,25 +27,25 @@ use Rattle.law_controller.specs.frame_control.Joined.{joined}
 use Rattle.law_descriptors.specs.Both.{owns, both}
 use Rattle.law_descriptors.specs.Meeting.{met}
 use Rattle.law_descriptors.proofs.Standing.{both_off}
-use Rattle.law_devices.specs.ring_requests.Windows.{Queue, Lines, IsElsewhere}
+use Rattle.law_devices.specs.ring_requests.Windows.{Queue, IsElsewhere}
 use Rattle.law_devices.specs.ring_requests.Resting.{SameSide}
 use Rattle.law_devices.specs.ring_requests.Shown.{hand_side}
-use Rattle.law_devices.specs.scripted_requests.Controls.{transacts_by, begins_by}
+use Rattle.law_devices.specs.scripted_requests.Controls.{transacts_by}
 use Rattle.law_microframes.proofs.lemmas.visits.AskedHeads.{asked_is_near}
 use Rattle.law_request.specs.Host.{Endpoint as Asked}
 use Rattle.claims_report.specs.Acts.{IsOnce}
 use Rattle.claims_report.specs.ControlSides.{Device}
 use Rattle.claims_report.specs.Controls.{control_of}
 use Rattle.claims_report.specs.Requests.{Request}
-use Rattle.claims_world.specs.Requests.{wired, endpoint_of as owner_of_transfer, Windows, side_of, acted_with, opened_by, begun_by, acted_by}
-use Rattle.claims_world.specs.Requests.{after_event, numbers_of}
+use Rattle.claims_world.specs.Requests.{wired, endpoint_of as owner_of_transfer, Windows, side_of, acted_with, opened_by, begun_by}
+use Rattle.claims_world.specs.Requests.{acted_by, after_event, numbers_of}
 use Rattle.bus_world.specs.World.{World, controller_parts, controller_next}
 use Rattle.law_world.specs.memory.Mixed.{Standing}
 use Rattle.law_reports.specs.lines.Lined.{Lines as Told_lines}
 use Rattle.law_reports.specs.pipes.Declared.{Sides as Pipes}
 use Rattle.law_reports.specs.pipes.Piped.{Heads, IsPiped}
 use Rattle.law_reports.proofs.lemmas.pipes.Controlled.{c}
-use Rattle.law_reports.specs.requests.Asking.{Sides, IsGiven, Asking, has_left, HasCourse}
+use Rattle.law_reports.specs.requests.Asking.{Sides, IsGiven, Asking, has_left}
 use Rattle.law_reports.specs.requests.Coming.{IsComing}
 use Rattle.law_reports.specs.requests.Counts.{counted_all, Counts, side_at}
 use Rattle.law_reports.specs.requests.Courses.{Course, NoQueue, Asks as AskedCourse, Rests, has_queue, queue_in, IsAsking, IsResting}
@@ -158,8 +154,8 @@ module _ (g : Sides) (fixed : Fixed) (x : Pipes) (s : Standing) (m : Told_lines)
   in_frames Nothing is copy same = absurd (let both : _ ≡ _ = sym e.nothing ∙ same in cc)
   in_frames (OfQueue d made) is copy same =
       let there : IsCopiedQueue (met w.driver s.recent) (both s.descs s.parts) d =
-      subst (IsInFrame (met w.driver s.recent) (both s.descs s.parts) w.control.frame.got w.control.frame.reply) is (runs.walk e.part).in_hand
-      in
+      subst (IsInFrame (met w.driver s.recent) (both s.descs s.parts) w.control.frame.got w.control.frame.reply) is
+      (runs.walk e.part).in_hand in
       ap s.member (sym (same_at d copy same)) ∙ runs.apart d.at AQueue there.on
   in_frames (OfSettled d z made) is copy same = absurd (cc)
   in_frames (OfItd d) is copy same = absurd (let both : _ ≡ _ = sym e.nothing ∙ same in cc)
@@ -375,7 +371,7 @@ module _ (g : Sides) (fixed : Fixed) (x : Pipes) (s : Standing) (m : Told_lines)
   counts_then : (n : ℕ) → have_queues a.courses n ≡ true
       → Counts (side_at fixed (told_world w) (a.courses n)) (counted_all v (numbers_of (queued w.driver) (a.numbers n).endpoint) 0)
       → Counts (side_at fixed (controller_next fixed (told_world w)) (a.courses n))
-          (counted_all passed (numbers_of (queued w.driver) (a.numbers n).endpoint) 0)
+      (counted_all passed (numbers_of (queued w.driver) (a.numbers n).endpoint) 0)
   counts_then n has old d is =
       old d (sym (device_same n has) ∙ is)
       ∙ sym (counted_same v passed (numbers_of (queued w.driver) (a.numbers n).endpoint) 0 (all_stay n has))

@@ -52,8 +52,8 @@ lines_high s (l ∷ ls) fits declares suits bytes =
 pub texts_have_high_asks : TextsHaveHighAsks
 texts_have_high_asks text s spelled n =
     let bytes : IsByteScript s = a_text_spells_bytes text s spelled in
-    holds_with_windows (CanHigh s) (λ (w : World) (v : Windows) (asks : ℕ → Request). HasHighAsks (high_sides_of s) (fixed_of s) (pipes_of s) v asks w)
-    s (spelled_fits text s spelled)
+    holds_with_windows (CanHigh s)
+    (λ (w : World) (v : Windows) (asks : ℕ → Request). HasHighAsks (high_sides_of s) (fixed_of s) (pipes_of s) v asks w) s (spelled_fits text s spelled)
     (lines_high s s.lines (lines_can s.lines (lines_fit s.lines (texts_fit text s spelled) (texts_open_fitting text s spelled)))
     (texts_declare text s spelled) (texts_suit text s spelled) bytes.lines)
     (new_world_high_asks s (high_sides_of s) (spelled_fits text s spelled) bytes (λ addr num c first. first))
@@ -61,6 +61,6 @@ texts_have_high_asks text s spelled n =
       driver = λ w v asks h. driver_keeps_high_asks (high_sides_of s) (fixed_of s) (pipes_of s) v asks w h;
       controller = λ w v asks h. controller_keeps_high_asks (high_sides_of s) (fixed_of s) (pipes_of s) v asks w h;
       command = λ w line cmd v asks can room h.
-          command_keeps_high_asks (high_sides_of s) (fixed_of s) (pipes_of s) v asks w line cmd can.fits can.declares can.suits can.bytes room
-          h;
+          command_keeps_high_asks (high_sides_of s) (fixed_of s) (pipes_of s) v asks w line cmd can.fits can.declares can.suits can.bytes
+          room h;
     }) n

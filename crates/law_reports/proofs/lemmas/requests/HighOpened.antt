@@ -82,7 +82,8 @@ module _ (s : Standing) (w : World) (k : IsMixedAt s w) (e : ℕ) (x : Endpoint)
       ∙ sym (ap (λ (y : Endpoint). y.linked) (of_queue z is)) ∙ linked))
   alive_by f z there linked false false is periodic =
       in_ring_alive d f z owners.orderly there
-      (sym (ap (λ (b : Bool). if b then not z.gone else z.linked) periodic) ∙ sym (ap (λ (y : Endpoint). y.linked) (of_queue z is)) ∙ linked)
+      (sym (ap (λ (b : Bool). if b then not z.gone else z.linked) periodic) ∙ sym (ap (λ (y : Endpoint). y.linked) (of_queue z is))
+      ∙ linked)
 
   there_unmet : x.gone ≡ false → queue_of (slice_get w.driver.endpoints (length w.driver.endpoints - 1)) ≡ x.queue
       → w.driver.command ≡ Some unfinished.Chain → IsChainThere w.driver s.member s.recent s.parts → ⊥

@@ -1,11 +1,9 @@
--- An event of the ring, in a world with endpoints of every kind: its walk is over the structures of queues alone, and its requests are those
--- of the ring.
-use Rattle.std.proofs.Common.{◌≡◌, ℕ, ◌*◌, ◌≤◌, Bool, true, false, List, slice_get, Option, Some, ap, refl, sym, subst, ◌∙◌}
-use Rattle.std.proofs.lemmas.Bool.{false≢true}
+-- An event of the ring, in a world with endpoints of every kind: its walk is over the structures of queues alone, and its requests are
+-- those of the ring.
+use Rattle.std.proofs.Common.{◌≡◌, ℕ, ◌*◌, true, false, slice_get, Option, Some, ap, refl, sym, subst, ◌∙◌}
 use Rattle.law_reports.proofs.Common.{queue_still, has_still}
 use Rattle.bus_wire.specs.Bus.{Wired, Fixed}
 use Rattle.op_registers.specs.RegisterFile.{RegisterFile}
-use Rattle.link_words.specs.declared.kinds.Link.{Link}
 use Rattle.async_walk.specs.declared.state.Cursor.{Cursor}
 use Rattle.async_walk.specs.declared.state.Cursor.TheVariants as cursors
 use Rattle.async_walk.specs.Rows.{cursor_link}
@@ -15,15 +13,16 @@ use Rattle.claims_base.specs.Controller.{Base, opening_base}
 use Rattle.claims_driver.specs.Owners.{views_of}
 use Rattle.drv_table.specs.declared.content.Endpoint.{Endpoint}
 use Rattle.drv_table.specs.Words.{is_control, head_block, opening_head}
-use Rattle.law_driver.specs.queued_drivers.Queued.{queued_endpoint, queued}
+use Rattle.law_driver.specs.queued_drivers.Queued.{queued}
 use Rattle.law_driver_ring.specs.fed_queues.Places.{IsMet}
 use Rattle.law_structures.specs.lent_structures.Structures.{StructureSets}
 use Rattle.law_ring.specs.Hand.{Hand}
 use Rattle.law_ring.specs.Effects.{Effect}
 use Rattle.law_ring.specs.Ring.{IsRing, IsCursorAmong}
-use Rattle.law_ring.specs.Told.{Endpoint as Characteristics, HasEndpoint, endpoint_of}
+use Rattle.law_ring.specs.Told.{Endpoint as Characteristics, endpoint_of}
 use Rattle.law_ring.proofs.StreamEvents.{streams_by}
-use Rattle.law_controller.specs.controlled_streams.Control.{FrameList, IsControlled, off as unscheduled, ControlEffect, a_microframe, a_step}
+use Rattle.law_controller.specs.controlled_streams.Control.{FrameList, IsControlled, off as unscheduled, ControlEffect, a_microframe}
+use Rattle.law_controller.specs.controlled_streams.Control.{a_step}
 use Rattle.law_controller.specs.frame_control.Both.{RunsBoth}
 use Rattle.law_controller.proofs.lemmas.controlled_streams.Events.{control_keeps}
 use Rattle.law_controller.proofs.lemmas.lent_writes.Controlling.{each_event_of_the_controller_writes_lent_words}
@@ -51,7 +50,7 @@ use Rattle.law_reports.specs.pipes.Piped.{Heads, IsPiped}
 use Rattle.law_reports.proofs.lemmas.pipes.Controlled.{c, controlled, lines_then}
 use Rattle.law_reports.proofs.lemmas.pipes.Names.{queue_same, WasQueued, was_queued}
 use Rattle.law_reports.specs.requests.world_requests.Requesting.{IsWalked, RingGoesOn}
-use Rattle.law_reports.specs.requests.Courses.{Course, has_queue, queue_in, IsCourse, queues, have_queues, CoursesStand}
+use Rattle.law_reports.specs.requests.Courses.{Course, IsCourse, queues, have_queues, CoursesStand}
 use Rattle.law_reports.specs.requests.QueueEvents.{courses_after, course_after, CoursesGoOn}
 use Rattle.law_reports.specs.requests.TransferEvents.{IsLeftAlone, IsOwned}
 use Rattle.law_reports.specs.requests.Asking.{Sides, Asking, has_left}
@@ -115,7 +114,8 @@ module _ (g : Sides) (fixed : Fixed) (x : Pipes) (s : Standing) (m : Lines) (h :
       let on : is_control o.endpoint.desc.kind ≡ true = g.controls o.endpoint.desc o.control.is.control in
       ap s.member (o.at ∙ ap (λ (y : Endpoint). 32 * y.queue) t.is ∙ ap (λ (b : ℕ). 32 * b) (queue_same t.endpoint))
       ∙ control_member s w k.mixed o.number t.endpoint t.here
-      (real_control g fixed x s m h w k head suited o.number t.endpoint t.here (ap (λ (y : Endpoint). is_control y.desc.kind) (sym t.is) ∙ on))
+      (real_control g fixed x s m h w k head suited o.number t.endpoint t.here
+      (ap (λ (y : Endpoint). is_control y.desc.kind) (sym t.is) ∙ on))
       (subst (IsMet (queued w.driver) o.number) t.is o.control.met)
 
   narrow_stand : CoursesStand control_of s.member a.courses s.parts s.hand (wired fixed w)
@@ -144,8 +144,8 @@ module _ (g : Sides) (fixed : Fixed) (x : Pipes) (s : Standing) (m : Lines) (h :
         one_endpoint s.parts n o.own (h.ends n) o.has (named_by g fixed x s m h w k head suited n on) in
         record {
           own = h.ends n;
-          has = named_by g fixed x (standing_then s w (c fixed x s m h w k).event) (lines_then fixed x s m h w k) h (controller_next fixed w)
-              then head suited n on;
+          has = named_by g fixed x (standing_then s w (c fixed x s m h w k).event) (lines_then fixed x s m h w k) h
+              (controller_next fixed w) then head suited n on;
           other = λ i has addr num.
               o.other i (sym (has_still step i (a.courses i)) ∙ has)
               (ap (λ (y : Queue). y.endpoint.addr) (sym (queue_still step i (a.courses i))) ∙ addr
@@ -274,8 +274,8 @@ module _ (g : Sides) (fixed : Fixed) (x : Pipes) (s : Standing) (m : Lines) (h :
           (control_keeps begins_by transacts_by quiet_base s.member s.parts s.hand quiet_content wire after now later quiet (of_queues e))
           here;
       counts = λ n has here.
-          event_keeps_counts fixed opening_base s.member a.courses a.numbers (has_left g (queued w.driver)) s.parts s.hand asks u v ring_event
-          goes walked narrow_stand owned alone q.records n has here;
+          event_keeps_counts fixed opening_base s.member a.courses a.numbers (has_left g (queued w.driver)) s.parts s.hand asks u v
+          ring_event goes walked narrow_stand owned alone q.records n has here;
       left = alone;
       unopened = λ addr num d least none is. device_unopened fixed x s m h w k f addr num d least none is;
       words = lent_words.words;

@@ -1,6 +1,6 @@
 -- The windows of a world are those that its queues tell: an isochronous transfer is no request, and each endpoint has its own name.
-use Rattle.std.proofs.Common.{◌≡◌, ℕ, ◌*◌, ◌==◌, ◌&&◌, not, Bool, true, false, List, map, slice_get, Option, Some, None, option_map, ap, refl}
-use Rattle.std.proofs.Common.{sym, ◌∙◌, if◌then◌else◌}
+use Rattle.std.proofs.Common.{◌≡◌, ℕ, suc, ◌*◌, ◌==◌, ◌&&◌, not, Bool, true, false, List, map, slice_get, Option, Some}
+use Rattle.std.proofs.Common.{None, option_map, ap, refl, sym, ◌∙◌, if◌then◌else◌}
 use Rattle.std.specs.Prelude.{position, length, nat_lt, cond, [], ◌∷◌, ◌+◌}
 use Rattle.std.specs.List.{prefix_len}
 use Rattle.std.proofs.lemmas.List.{length-map}
@@ -23,7 +23,8 @@ use Rattle.law_driver.proofs.lemmas.queued_drivers.CommandFields.{name_same}
 use Rattle.claims_report.specs.ControlSides.{Device}
 use Rattle.claims_report.specs.Controls.{control_of, is_at}
 use Rattle.bus_world.specs.World.{World, controller_next}
-use Rattle.claims_world.specs.Requests.{wired, is_request, is_setup_at, setup_at, endpoint_of, Windows, acted_with, acts_in, opened_by}
+use Rattle.claims_world.specs.Requests.{numbers_from, numbers_of, wired, is_request, is_setup_at, setup_at, endpoint_of, Windows}
+use Rattle.claims_world.specs.Requests.{acted_with, acts_in, opened_by}
 use Rattle.claims_world.specs.Requests.{begun_in, begun_by, side_of, acted_by, after_event}
 use Rattle.law_reports.specs.requests.HighAsking.{told_world}
 
@@ -71,12 +72,23 @@ setup_told d a =
 
 pub owner_told : (d : DriverContent) (t : ℕ) → endpoint_of (queued d) t ≡ endpoint_of d t
 owner_told d t =
-    ap (option_map (λ (y : Transfer). y.endpoint)) (slice_get-map (queued_transfer d.endpoints) d.transfers t) ∙ by (slice_get d.transfers t)
+    ap (option_map (λ (y : Transfer). y.endpoint)) (slice_get-map (queued_transfer d.endpoints) d.transfers t)
+    ∙ by (slice_get d.transfers t)
   where
     by : (o : Option Transfer) → option_map (λ (y : Transfer). y.endpoint) (option_map (queued_transfer d.endpoints) o)
         ≡ option_map (λ (y : Transfer). y.endpoint) o
     by None = refl
     by (Some y) = ap (λ (e : ℕ). Some e) (queued_owner d.endpoints y)
+
+numbers_same : (xs : List Endpoint) (e n : ℕ) (ts : List Transfer) → numbers_from e n (map (queued_transfer xs) ts) ≡ numbers_from e n ts
+numbers_same xs e n [] = refl
+numbers_same xs e n (t ∷ ts) =
+    ap (λ (o : ℕ). if o == e then n ∷ numbers_from e (suc n) (map (queued_transfer xs) ts)
+    else numbers_from e (suc n) (map (queued_transfer xs) ts)) (queued_owner xs t)
+    ∙ ap (λ (ns : List ℕ). if t.endpoint == e then n ∷ ns else ns) (numbers_same xs e (suc n) ts)
+
+pub numbers_told : (d : DriverContent) (e : ℕ) → numbers_of (queued d) e ≡ numbers_of d e
+numbers_told d e = numbers_same d.endpoints e 0 d.transfers
 
 -- ---- what an event records
 

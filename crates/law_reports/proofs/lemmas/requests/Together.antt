@@ -1,12 +1,10 @@
 -- At each moment of a script of bulk and control endpoints its requests stand as they must.
-use Rattle.law_reports.specs.requests.Kept.{TextsKeepRequests}
 use Rattle.law_reports.specs.requests.Moments.{ScriptsStayAsking}
 use Rattle.law_reports.proofs.lemmas.requests.NewWorld.{new_world_asks}
 use Rattle.law_reports.proofs.lemmas.requests.Controller.{controller_keeps_asking}
 use Rattle.law_reports.proofs.lemmas.requests.Commanded.{command_keeps_asking}
 use Rattle.law_reports.proofs.lemmas.requests.Driving.{driver_keeps_asking}
 use Rattle.law_reports.proofs.lemmas.requests.Moments.{StaysAsking, stay_asking}
-use Rattle.law_reports.proofs.lemmas.requests.Kept.{keep_requests}
 
 stays : StaysAsking
 stays = record {
@@ -19,6 +17,3 @@ stays = record {
 
 pub scripts_stay_asking : ScriptsStayAsking
 scripts_stay_asking = stay_asking stays
-
-pub texts_keep_requests : TextsKeepRequests
-texts_keep_requests = keep_requests stays

@@ -36,7 +36,7 @@ use Rattle.law_devices.proofs.lemmas.scripted_requests.Asking.{a_scripted_bus_an
 use Rattle.law_devices.proofs.lemmas.scripted_requests.Beginning.{keeps_devices}
 use Rattle.bus_world.specs.World.{World, controller_parts, controller_next}
 use Rattle.claims_world.specs.Requests.{wired, setup_at, endpoint_of, Windows, acted_between, opened_by, begun_by, side_of, acted_with, acted_by, after_event}
-use Rattle.law_reports.specs.requests.world_requests.Requesting.{IsRequesting, HearsBytesNow, IsWalked, WindowsGoOn, AreAsked}
+use Rattle.law_reports.specs.requests.world_requests.Requesting.{IsRequesting, HearsBytesNow, WindowsGoOn, AreAsked}
 use Rattle.law_reports.specs.requests.world_requests.Recording.{IsNamed, IsNoSetup, AreTransfers, AreRecorded, IsRecorded, StaysRecorded}
 use Rattle.law_reports.proofs.lemmas.requests.lemmas.world_requests.Acting.{none_acted}
 use Rattle.law_reports.proofs.lemmas.requests.lemmas.world_requests.Begun.{begun_between, left_begins, same_begins, kind_begins}
