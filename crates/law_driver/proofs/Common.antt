@@ -52,7 +52,8 @@ use Rattle.drv_table.specs.Commands.{events_of}
 use Rattle.law_admission.proofs.Events.{either}
 use Rattle.claims_driver.specs.Owners.{QueueHead, FrameList, Described, NoteRuns, HasRun, SlotHas, HasBlocks}
 use Rattle.claims_driver.specs.Leaving.{times, leaves_ring, leaves_frames}
-use Rattle.claims_driver.specs.Scripts.{receives, comes_in, IsKindOf}
+use Rattle.claims_driver.specs.Scripts.{receives, comes_in}
+use Rattle.law_driver.specs.AsynchronousScripts.{IsKindOf}
 use Rattle.claims_driver.specs.Ring.{IsAmong, later}
 use Rattle.claims_driver.specs.LentRuns.{IsLent}
 use Rattle.claims_driver.specs.FrameListMembers.{is_among as is_in}

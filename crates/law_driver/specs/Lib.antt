@@ -13,3 +13,4 @@ pub mod queued_drivers
 pub mod ordered_list
 pub mod released_blocks
 pub mod due_frames
+pub mod AsynchronousScripts

@@ -60,7 +60,7 @@ use Rattle.law_frames.specs.Met.{Kind}
 use Rattle.law_controller.specs.frame_stores.Stores.{HasLink}
 use Rattle.law_controller.proofs.Common.{same_hand as hand_itself}
 use Rattle.claims_driver.specs.Owners.{TransferRuns, transfer_in, NoteRuns, SlotHas}
-use Rattle.claims_driver.specs.Scripts.{IsKindOf}
+use Rattle.law_driver.specs.AsynchronousScripts.{IsKindOf}
 use Rattle.claims_driver.specs.Leaving.{owes, HasOwners, times}
 use Rattle.law_driver.specs.in_place.InPlace.{IsGood}
 use Rattle.law_driver.proofs.lemmas.run_owners.Taking.{runs_taken}

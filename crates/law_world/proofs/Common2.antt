@@ -30,7 +30,7 @@ use Rattle.drv_table.specs.DriverContent.{DriverContent}
 use Rattle.drv_table.specs.Commands.{finished, no_command}
 use Rattle.law_structures.specs.lent_structures.Structures.{Structures, HoldsQueueHead}
 use Rattle.claims_driver.specs.Owners.{is_descriptor, FrameList, QueueHead}
-use Rattle.claims_driver.specs.Scripts.{IsKindOf}
+use Rattle.law_driver.specs.AsynchronousScripts.{IsKindOf}
 use Rattle.claims_driver.specs.Ring.{IsAmong, first, later}
 use Rattle.claims_driver.specs.Unlinked.{led_in}
 use Rattle.law_driver.specs.queued_drivers.Queued.{queued_transfer, sort_of_queue}

@@ -20,7 +20,7 @@ use Rattle.claims_driver.specs.Leaving.{leaver}
 use Rattle.law_driver.specs.run_owners.Accepts.{Opens, Transfers, Cancels}
 use Rattle.law_driver.specs.chained_transfers.Bulk.{MovesAs, IsBulkCommand, IsToUnlink}
 use Rattle.law_driver.specs.chained_transfers.Accepted.{IsAsked}
-use Rattle.claims_driver.specs.Scripts.{IsAsynchronous}
+use Rattle.law_driver.specs.AsynchronousScripts.{IsAsynchronous}
 
 -- ---- drivers
 

@@ -20,7 +20,7 @@ use Rattle.claims_driver.specs.Leaving.{HasOwners}
 use Rattle.law_driver.specs.chained_transfers.Chains.{AreChained}
 use Rattle.law_driver.specs.chained_transfers.Turns.{AreInTurn}
 use Rattle.law_driver.specs.chained_transfers.InTurn.{TakesTurns}
-use Rattle.claims_driver.specs.Scripts.{OpensAsynchronous}
+use Rattle.law_driver.specs.AsynchronousScripts.{OpensAsynchronous}
 use Rattle.law_driver.specs.chained_transfers.Asynchronous.{OnlyAsynchronous, AcceptsAsynchronous}
 
 pub record AsynchronousTakesTurns (d : DriverContent) : Type 0 where

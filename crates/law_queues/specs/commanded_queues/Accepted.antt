@@ -24,7 +24,7 @@ use Rattle.claims_driver.specs.LentRuns.{AreLent}
 use Rattle.law_structures.specs.lent_structures.Structures.{StructureSets}
 use Rattle.law_driver_ring.specs.Inventory.{sorts_of, IsDriven}
 use Rattle.law_driver_ring.specs.Extents.{AreInRuns}
-use Rattle.claims_driver.specs.Scripts.{IsAsynchronous, OpensAsynchronous}
+use Rattle.law_driver.specs.AsynchronousScripts.{IsAsynchronous, OpensAsynchronous}
 use Rattle.law_driver.specs.chained_transfers.Asynchronous.{OnlyAsynchronous}
 use Rattle.law_driver_ring.specs.fed_queues.Places.{IsMet}
 use Rattle.law_queues.specs.standing_fronts.Reaching.{Reaches}

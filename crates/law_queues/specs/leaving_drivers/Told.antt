@@ -21,7 +21,7 @@ use Rattle.drv_table.specs.Offers.{offered}
 use Rattle.drv_table.specs.Parts.{Parts}
 use Rattle.drv_table.specs.Rows.{driver_row, after_driver_row}
 use Rattle.claims_driver.specs.Leaving.{HasOwners}
-use Rattle.claims_driver.specs.Scripts.{OpensAsynchronous}
+use Rattle.law_driver.specs.AsynchronousScripts.{OpensAsynchronous}
 use Rattle.law_driver.specs.chained_transfers.AsynchronousTurns.{AsynchronousTakesTurns}
 
 abbrev pub told_to : DriverContent → EpName → List ℕ

@@ -3,7 +3,7 @@ ghost use Rattle.qh_qtd.specs.QueueHead.{IsQhInRange};
 ghost use Rattle.drv_table.specs.Words.{queue_head};
 ghost use Rattle.claims_driver.specs.Walk.{IsNumbered};
 ghost use Rattle.law_driver.specs.chained_transfers.Bulk.{IsBulk};
-ghost use Rattle.claims_driver.specs.Scripts.{IsAsynchronous};
+ghost use Rattle.law_driver.specs.AsynchronousScripts.{IsAsynchronous};
 ghost use Rattle.law_queues.specs.commanded_queues.Samples.{highest, highest_out, highest_control};
 
 /// An endpoint of the highest address and number, of either way or of control, whose queue head leads to the head of the ring, in block 128, and to the inactive

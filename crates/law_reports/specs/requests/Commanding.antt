@@ -14,7 +14,7 @@ use Rattle.drv_table.specs.Accepting.{Offered}
 use Rattle.drv_table.specs.Offers.{offered, IsOffered}
 use Rattle.drv_table.specs.Words.{head_block, opening_head}
 use Rattle.law_driver_ring.specs.walk_members.Reached.{OpensNumbered}
-use Rattle.claims_driver.specs.Scripts.{OpensAsynchronous}
+use Rattle.law_driver.specs.AsynchronousScripts.{OpensAsynchronous}
 use Rattle.claims_report.specs.Requests.{Request}
 use Rattle.law_request.specs.Windows.{IsRequest}
 use Rattle.law_ring.specs.Told.{endpoint_of}

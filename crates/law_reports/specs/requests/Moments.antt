@@ -16,7 +16,7 @@ use Rattle.law_world.specs.streams.Feeding.{streams_of}
 use Rattle.law_world.specs.streams.Moments.{IsAsynchronousScript}
 use Rattle.law_reports.specs.requests.Asking.{HasAskingWorld}
 use Rattle.law_reports.specs.requests.Given.{sides_of, GivesLine}
-use Rattle.claims_driver.specs.Scripts.{AsynchronousOnly}
+use Rattle.law_driver.specs.AsynchronousScripts.{AsynchronousOnly}
 
 pub record IsAskingScript (s : Script) : Type 0 where
   pub asynchronous : IsAsynchronousScript s

@@ -14,7 +14,7 @@ use Rattle.law_ring.specs.Told.{endpoint_of}
 use Rattle.bus_world.specs.World.{World, driver_next, commanded}
 use Rattle.law_world.specs.steps.Streaming.{Streams, Standing}
 use Rattle.claims_world.specs.Requests.{Windows, asks_then}
-use Rattle.claims_driver.specs.Scripts.{OpensAsynchronous}
+use Rattle.law_driver.specs.AsynchronousScripts.{OpensAsynchronous}
 use Rattle.law_driver_ring.specs.walk_members.Reached.{OpensNumbered}
 use Rattle.law_world.specs.streams.LeftLaws.{OpensNamed}
 use Rattle.law_world.specs.streams.Whole.{IsWhole}

@@ -1,7 +1,7 @@
 //! Worked rows: beside a keyboard behind a hub, which is asked by split transactions, the streams of a device at high speed are claimed,
 //! those of its interrupt endpoint too.
 ghost use Rattle.std.specs.Prelude.{◌≡◌, true, false, [], ◌∷◌};
-ghost use Rattle.claims_driver.specs.Scripts.{AsynchronousOnly};
+ghost use Rattle.law_driver.specs.AsynchronousScripts.{AsynchronousOnly};
 ghost use Rattle.claims_world.specs.HighStreams.{claimed, KeepsHighThroughout, AreHighInStreams, AreHighTakenStreams};
 ghost use Rattle.claims_world.specs.HighStreams.{AreHighSentStreams, AreHighStreams};
 ghost use Rattle.law_opened.specs.Samples.{key, sink, board, beside_split};

@@ -1,7 +1,7 @@
 //! Scripts of bulk and control endpoints.
 ghost use Rattle.std.specs.Prelude.{◌≡◌, true, false};
 ghost use Rattle.script_world.specs.Draft.{hub_desc};
-ghost use Rattle.claims_driver.specs.Scripts.{AsynchronousOnly};
+ghost use Rattle.law_driver.specs.AsynchronousScripts.{AsynchronousOnly};
 ghost use Rattle.law_devices.specs.declared_controls.Samples.{zero, beside_bulk};
 ghost use Rattle.law_reports.specs.requests.Given.{is_of_device};
 ghost use Rattle.law_reports.specs.requests.Moments.{TextsAsk, ScriptsStayAsking};

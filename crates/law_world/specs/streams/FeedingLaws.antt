@@ -23,7 +23,7 @@ use Rattle.bus_world.specs.World.{World, driver_parts, driver_next, commanded}
 use Rattle.bus_world.specs.Opening.{opening_world}
 use Rattle.law_world.specs.steps.Streaming.{Streams, Standing, HearsBytesNow}
 use Rattle.law_world.specs.streams.shared_worlds.Working.{at_opening}
-use Rattle.claims_driver.specs.Scripts.{OpensAsynchronous}
+use Rattle.law_driver.specs.AsynchronousScripts.{OpensAsynchronous}
 use Rattle.law_queues.specs.standing_fronts.Tails.{TailsStand}
 use Rattle.law_world.specs.streams.Feeding.{streams_of, IsFeeding, GoesOnBeside, GoesOnAs}
 

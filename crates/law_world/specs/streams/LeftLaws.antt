@@ -15,7 +15,7 @@ use Rattle.bus_wire.specs.Bus.{Fixed, fixed_of}
 use Rattle.drv_table.specs.Offers.{IsOffered}
 use Rattle.drv_table.specs.declared.rows.DriverRow.TheVariants as rows
 use Rattle.drv_table.specs.Rows.{driver_row}
-use Rattle.claims_driver.specs.Scripts.{OpensAsynchronous}
+use Rattle.law_driver.specs.AsynchronousScripts.{OpensAsynchronous}
 use Rattle.law_driver_ring.specs.walk_members.Reached.{OpensNumbered}
 use Rattle.law_queues.specs.leaving_drivers.Told.{AreNamedOnce}
 use Rattle.law_queues.specs.reached_rings.Reaching.{IsReachedIn}

@@ -20,7 +20,7 @@ use Rattle.law_devices.specs.declared_controls.Names.{NamesEndpoints}
 use Rattle.law_devices.specs.declared_controls.Zero.{AreZeroesAlone}
 use Rattle.law_scripts.specs.Numbers.{NumbersOpens}
 use Rattle.bus_world.specs.Budgets.{moment}
-use Rattle.claims_driver.specs.Scripts.{AsynchronousOnly}
+use Rattle.law_driver.specs.AsynchronousScripts.{AsynchronousOnly}
 use Rattle.law_world.specs.steps.Takers.{takes_of}
 use Rattle.law_world.specs.streams.Feeding.{streams_of}
 use Rattle.law_world.specs.streams.Whole.{HasWhole}

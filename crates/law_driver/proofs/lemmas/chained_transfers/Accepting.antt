@@ -36,7 +36,7 @@ use Rattle.law_driver.specs.run_owners.Accepts.{AreShort, Opens, Transfers, Canc
 use Rattle.law_driver.specs.chained_transfers.Bulk.{IsDataWay, IsBulk, OpensBulk, OnlyBulk, OpensOrCancelsBulk}
 use Rattle.law_driver.specs.chained_transfers.Leaving.{IsAcceptedAs}
 use Rattle.law_driver.specs.chained_transfers.Accepted.{move_of, IsAsked, IsAccepted}
-use Rattle.claims_driver.specs.Scripts.{IsAsynchronous, OpensAsynchronous}
+use Rattle.law_driver.specs.AsynchronousScripts.{IsAsynchronous, OpensAsynchronous}
 use Rattle.law_driver.specs.chained_transfers.Asynchronous.{OnlyAsynchronous, IsRequested, AcceptsAsynchronous}
 use Rattle.law_driver.proofs.lemmas.chained_transfers.BulkAndControl.{not_iso, not_periodic, bulk_asynchronous}
 use Rattle.law_driver.proofs.lemmas.chained_transfers.Ways.{sort_queued, same_in, same_out, stages_short, stages_some}

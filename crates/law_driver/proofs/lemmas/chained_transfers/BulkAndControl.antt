@@ -12,7 +12,7 @@ use Rattle.drv_table.specs.DriverContent.{DriverContent}
 use Rattle.drv_table.specs.Kinds.{is_iso}
 use Rattle.law_driver.specs.chained_transfers.Bulk.{IsDataWay, IsBulk, IsStanding, OnlyBulk}
 use Rattle.law_driver.specs.chained_transfers.InTurn.{TakesTurns}
-use Rattle.claims_driver.specs.Scripts.{IsKindOf, IsAsynchronous}
+use Rattle.law_driver.specs.AsynchronousScripts.{IsKindOf, IsAsynchronous}
 use Rattle.law_driver.specs.chained_transfers.Asynchronous.{StandsAsynchronous, OnlyAsynchronous}
 use Rattle.law_driver.specs.chained_transfers.AsynchronousTurns.{AsynchronousTakesTurns}
 

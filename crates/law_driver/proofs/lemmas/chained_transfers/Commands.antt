@@ -37,7 +37,7 @@ use Rattle.law_driver.specs.chained_transfers.Chains.{piece_at}
 use Rattle.law_driver.specs.chained_transfers.Turns.{IsAtPlace, AreAtPlaces, Turn, turn_of, turn_in, AreReportedTo, IsNotGone, AreTurnsOf, AreReturned}
 use Rattle.law_driver.specs.chained_transfers.InTurn.{TakesTurns}
 use Rattle.law_driver.specs.chained_transfers.Leaving.{IsAcceptedAs, IsStaying, NothingLeaves}
-use Rattle.claims_driver.specs.Scripts.{OpensAsynchronous}
+use Rattle.law_driver.specs.AsynchronousScripts.{OpensAsynchronous}
 use Rattle.law_driver.specs.chained_transfers.Asynchronous.{StandsAsynchronous, OnlyAsynchronous, IsOpenedAsynchronous, AcceptsAsynchronous}
 use Rattle.law_driver.specs.chained_transfers.AsynchronousTurns.{AsynchronousTakesTurns}
 use Rattle.law_driver.proofs.lemmas.chained_transfers.BulkAndControl.{bulk_asynchronous, bulk_is_asynchronous, EachBulk, takes_bulk_turns}

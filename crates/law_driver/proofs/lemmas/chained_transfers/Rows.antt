@@ -25,7 +25,7 @@ use Rattle.claims_driver.specs.Leaving.{leaver}
 use Rattle.law_driver.specs.chained_transfers.Bulk.{MovesAs, IsBulkCommand}
 use Rattle.law_driver.specs.chained_transfers.Turns.{Turn, turn_of, turn_in, IsNotGone, AreInTurn}
 use Rattle.law_driver.specs.chained_transfers.Leaving.{IsStaying, NothingLeaves}
-use Rattle.claims_driver.specs.Scripts.{IsAsynchronous}
+use Rattle.law_driver.specs.AsynchronousScripts.{IsAsynchronous}
 use Rattle.law_driver.specs.chained_transfers.Asynchronous.{StandsAsynchronous, OnlyAsynchronous}
 use Rattle.law_driver.proofs.lemmas.chained_transfers.Turning.{changed_plain, fewer_turns}
 use Rattle.law_driver.proofs.lemmas.chained_transfers.Ends.{ends_turns, changed_end, changed_stays, WasTurn, WasGone, returned_on, same_turn, changed_gone}

@@ -15,7 +15,7 @@ use Rattle.drv_table.specs.declared.content.Sort.{Sort}
 use Rattle.drv_table.specs.DriverContent.{DriverContent, is_same_name, endpoint_of}
 use Rattle.drv_table.specs.Kinds.{is_iso}
 use Rattle.claims_driver.specs.Owners.{is_descriptor}
-use Rattle.claims_driver.specs.Scripts.{IsAsynchronous, IsKindOf}
+use Rattle.law_driver.specs.AsynchronousScripts.{IsAsynchronous, IsKindOf}
 use Rattle.law_driver.specs.queued_drivers.Queued.{queued_kind, queued_desc, without_queue, with_queue, queued_endpoint, sort_of_queue, queued_transfer, queued}
 
 -- ---- an endpoint

@@ -30,7 +30,7 @@ use Rattle.drv_table.specs.Offers.{Asked, taken_open, planned_open, offered_open
 use Rattle.drv_table.specs.IsoOffers.{slots_of, spans_too_long, has_slots, iso_needs, taken_iso, open_iso, offered_iso}
 use Rattle.drv_table.specs.CancelOffers.{endpoint_members, with_cancel, cancelled_by, offered_cancel}
 use Rattle.law_driver.specs.run_owners.Accepts.{Opens}
-use Rattle.claims_driver.specs.Scripts.{OpensAsynchronous}
+use Rattle.law_driver.specs.AsynchronousScripts.{OpensAsynchronous}
 use Rattle.law_driver.proofs.lemmas.chained_transfers.BulkAndControl.{not_periodic}
 use Rattle.law_queues.specs.commanded_queues.Accepted.{OpensItsOwn}
 

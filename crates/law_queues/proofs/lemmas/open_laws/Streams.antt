@@ -38,7 +38,8 @@ use Rattle.law_controller.specs.controlled_streams.Unopened.{IsUnopened, AreUnop
 use Rattle.law_controller.specs.controlled_streams.Opened.{with_stream, with_end, with_none, IsBeginning, IsOneMore}
 use Rattle.law_controller.proofs.lemmas.controlled_streams.Beginning.{ends_with_one, pipes_with_one, reports_with_one, unopened_less_one, ends_with_other, pipes_with_other, unopened_with_other}
 use Rattle.law_controller.proofs.lemmas.controlled_streams.Alike.{alike_ends, alike_pipes, alike_unopened}
-use Rattle.claims_driver.specs.Scripts.{comes_in, IsKindOf}
+use Rattle.claims_driver.specs.Scripts.{comes_in}
+use Rattle.law_driver.specs.AsynchronousScripts.{IsKindOf}
 use Rattle.law_driver_ring.specs.fed_queues.Places.{HasHead, HasThere}
 use Rattle.law_queues.proofs.lemmas.publish_laws.Apart.{queue_placed}
 use Rattle.law_queues.specs.open_laws.Opens.{AreNamesApart, IsAtOpen, head_then, hand_then, end_then, streams_then, OpenPipes, OpenReports}

@@ -21,7 +21,7 @@ use Rattle.drv_table.specs.Rows.{after_driver_row}
 use Rattle.drv_table.specs.Words.{is_control}
 use Rattle.claims_driver.specs.Leaving.{HasOwners}
 use Rattle.claims_driver.specs.Owners.{EndpointRuns, runs_of_endpoint}
-use Rattle.claims_driver.specs.Scripts.{IsAsynchronous}
+use Rattle.law_driver.specs.AsynchronousScripts.{IsAsynchronous}
 use Rattle.claims_report.specs.Streams.{has_stream}
 use Rattle.law_driver.specs.run_owners.Due.{IsHarvestDue}
 use Rattle.law_driver.specs.chained_transfers.Asynchronous.{OnlyAsynchronous}

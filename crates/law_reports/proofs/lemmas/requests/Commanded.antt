@@ -11,7 +11,7 @@ use Rattle.drv_table.specs.Offers.{offered, IsOffered}
 use Rattle.drv_table.specs.Words.{head_block, opening_head}
 use Rattle.claims_report.specs.Requests.{Request}
 use Rattle.law_ring.specs.Told.{endpoint_of}
-use Rattle.claims_driver.specs.Scripts.{OpensAsynchronous}
+use Rattle.law_driver.specs.AsynchronousScripts.{OpensAsynchronous}
 use Rattle.law_driver.proofs.lemmas.chained_transfers.Accepting.{asynchronous_command_is_accepted}
 use Rattle.law_driver_ring.specs.walk_members.Reached.{OpensNumbered}
 use Rattle.bus_world.specs.World.{World, commanded}

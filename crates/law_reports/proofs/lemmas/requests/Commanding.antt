@@ -33,7 +33,7 @@ use Rattle.law_driver.specs.endpoint_lives.Lives.{told_end, may_meet}
 use Rattle.law_driver.proofs.lemmas.endpoint_lives.Lives.{told_some}
 use Rattle.law_driver.specs.chained_transfers.Accepted.{IsAsked}
 use Rattle.law_driver.specs.chained_transfers.Bulk.{IsDataWay}
-use Rattle.claims_driver.specs.Scripts.{IsKindOf}
+use Rattle.law_driver.specs.AsynchronousScripts.{IsKindOf}
 use Rattle.law_driver.specs.chained_transfers.Asynchronous.{OnlyAsynchronous}
 use Rattle.law_driver.specs.chained_transfers.Turns.{AreAtPlaces}
 use Rattle.law_driver_ring.specs.told_harvests.Held.{AreUnmoved}

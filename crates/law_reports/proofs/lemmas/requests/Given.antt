@@ -22,7 +22,7 @@ use Rattle.script_text.specs.Faults.{Spells}
 use Rattle.drv_table.specs.Words.{is_control}
 use Rattle.claims_report.specs.Reports.{WholeReport}
 use Rattle.claims_report.specs.Requests.{requests}
-use Rattle.claims_driver.specs.Scripts.{AsynchronousLine}
+use Rattle.law_driver.specs.AsynchronousScripts.{AsynchronousLine}
 use Rattle.law_devices.proofs.Lists.{Holds, all_find}
 use Rattle.law_devices.proofs.Drafts.{IsEpOf, HasOwn, IsNamedIn, IsDeclaredDraft}
 use Rattle.law_devices.proofs.Texts.{IsScriptOf}

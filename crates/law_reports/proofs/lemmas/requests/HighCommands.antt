@@ -18,7 +18,7 @@ use Rattle.usb_base.specs.declared.reports.OfferError.{OfferError}
 use Rattle.word_mem.specs.Memory.{Mem}
 use Rattle.bus_wire.specs.Bus.{Fixed}
 use Rattle.law_scripts.specs.byte_answers.Bytes.{IsByteCommand}
-use Rattle.claims_driver.specs.Scripts.{IsAsynchronous}
+use Rattle.law_driver.specs.AsynchronousScripts.{IsAsynchronous}
 use Rattle.drv_periodic_table.specs.Periodic.{is_periodic}
 use Rattle.drv_table.specs.CancelOffers.{accepted_cancel}
 use Rattle.drv_table.specs.declared.content.Command.{Command}

@@ -2,7 +2,7 @@
 --     HighKeepsAll       and where all of it is kept at high speed, all is kept that was said of such a script: also after its run
 --     HighSaysAsMuch     so what is said of the streams at high speed says as much of such a script as what is said of all its streams
 use Rattle.script_types.specs.declared.scripts.Script.{Script}
-use Rattle.claims_driver.specs.Scripts.{AsynchronousOnly}
+use Rattle.law_driver.specs.AsynchronousScripts.{AsynchronousOnly}
 use Rattle.law_world.specs.streams.Asynchronous.{InStreamsAreRightThroughout, OutStreamsAreTakenThroughout, OutStreamsAreSentThroughout}
 use Rattle.law_world.specs.streams.Asynchronous.{StreamsAreRightAtTheEnd, KeepsStreams}
 use Rattle.claims_world.specs.HighStreams.{HighInsAreRight, HighOutsAreTaken}

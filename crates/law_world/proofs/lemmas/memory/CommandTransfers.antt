@@ -14,7 +14,7 @@ use Rattle.drv_table.specs.Offers.{first_of, stage_words, new_transfer, with_que
 use Rattle.law_driver.specs.run_owners.Accepts.{Accepts, opens, chains, places, transfers, describes, cancels, unchains, Transfers}
 use Rattle.law_driver.proofs.lemmas.run_owners.Commands.{each_command_has_its_reason}
 use Rattle.claims_base.specs.Controller.{opening_base}
-use Rattle.claims_driver.specs.Scripts.{OpensAsynchronous}
+use Rattle.law_driver.specs.AsynchronousScripts.{OpensAsynchronous}
 use Rattle.law_driver_ring.specs.fed_queues.Places.{AreMet}
 use Rattle.law_queues.specs.fed_lends.Commands.{QueuesStand}
 use Rattle.law_queues.specs.fed_lends.ToLend.{IsToBeLent}

@@ -25,7 +25,8 @@ use Rattle.law_world.proofs.lemmas.steps.lemmas.worlds_in_place.Refused.{refused
 use Rattle.bus_world.specs.World.{World, controller_parts, refused_line, commanded_by}
 use Rattle.law_world.specs.steps.Streaming.{Streams, Standing}
 use Rattle.law_world.specs.streams.shared_worlds.Working.{IsWorking}
-use Rattle.claims_driver.specs.Scripts.{comes_in, OpensAsynchronous}
+use Rattle.claims_driver.specs.Scripts.{comes_in}
+use Rattle.law_driver.specs.AsynchronousScripts.{OpensAsynchronous}
 use Rattle.law_driver.specs.chained_transfers.AsynchronousTurns.{AsynchronousTakesTurns}
 use Rattle.law_driver.proofs.lemmas.chained_transfers.Accepting.{asynchronous_command_is_accepted}
 use Rattle.law_driver.proofs.lemmas.chained_transfers.Commands.{commands_keep_asynchronous_turns}

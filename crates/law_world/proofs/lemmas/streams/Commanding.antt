@@ -7,7 +7,7 @@ use Rattle.bus_wire.specs.Bus.{Fixed}
 use Rattle.drv_table.specs.Accepting.{Offered}
 use Rattle.drv_table.specs.Offers.{offered, IsOffered}
 use Rattle.law_driver_ring.specs.walk_members.Reached.{OpensNumbered}
-use Rattle.claims_driver.specs.Scripts.{OpensAsynchronous}
+use Rattle.law_driver.specs.AsynchronousScripts.{OpensAsynchronous}
 use Rattle.law_driver.specs.chained_transfers.Asynchronous.{AcceptsAsynchronous}
 use Rattle.law_driver.proofs.lemmas.chained_transfers.Accepting.{asynchronous_command_is_accepted}
 use Rattle.bus_world.specs.World.{World, name_in, commanded_by, commanded}

@@ -16,7 +16,8 @@ use Rattle.law_ring.specs.Told.{Endpoint as Told}
 use Rattle.law_ring.specs.Front.{LinksRise}
 use Rattle.law_controller.specs.controlled_streams.Reported.{IsReported, AreReported}
 use Rattle.law_driver.specs.chained_transfers.Bulk.{IsDataWay}
-use Rattle.claims_driver.specs.Scripts.{comes_in, IsAsynchronous}
+use Rattle.claims_driver.specs.Scripts.{comes_in}
+use Rattle.law_driver.specs.AsynchronousScripts.{IsAsynchronous}
 use Rattle.law_driver.specs.chained_transfers.Asynchronous.{OnlyAsynchronous}
 use Rattle.claims_report.specs.Streams.{has_stream}
 use Rattle.law_driver_ring.specs.fed_queues.Places.{IsThere, IsMet, HasHead, AreMet, HaveStreams}

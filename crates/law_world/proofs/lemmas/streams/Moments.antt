@@ -40,7 +40,7 @@ use Rattle.claims_base.specs.Controller.{opening_base}
 use Rattle.bus_world.specs.World.{World, driver_next, controller_next, commanded}
 use Rattle.bus_world.specs.Budgets.{moment}
 use Rattle.law_world.specs.steps.Streaming.{Streams}
-use Rattle.claims_driver.specs.Scripts.{IsKindOf, IsAsynchronous, OpensAsynchronous, AsynchronousLine, AsynchronousOnly}
+use Rattle.law_driver.specs.AsynchronousScripts.{IsKindOf, IsAsynchronous, OpensAsynchronous, AsynchronousLine, AsynchronousOnly}
 use Rattle.law_world.specs.streams.narrowed_streams.Narrowed.{IsOnSide}
 use Rattle.law_world.specs.streams.right_worlds.Right.{AreOfScript}
 use Rattle.law_world.proofs.lemmas.streams.lemmas.right_worlds.Beginning.{world_is_right}

@@ -21,7 +21,7 @@ use Rattle.drv_table.specs.Rows.{driver_row}
 use Rattle.law_driver.proofs.lemmas.run_owners.Stays.{same_view}
 use Rattle.law_queues.proofs.lemmas.told_endpoints.Names.{same_name_is}
 use Rattle.law_driver.specs.run_owners.Accepts.{Opens, Transfers}
-use Rattle.claims_driver.specs.Scripts.{OpensAsynchronous}
+use Rattle.law_driver.specs.AsynchronousScripts.{OpensAsynchronous}
 use Rattle.law_driver.specs.chained_transfers.Asynchronous.{AcceptsAsynchronous}
 use Rattle.law_driver.specs.chained_transfers.AsynchronousTurns.{AsynchronousTakesTurns}
 use Rattle.law_driver.proofs.lemmas.chained_transfers.Accepting.{asynchronous_command_is_accepted}

@@ -20,7 +20,7 @@ use Rattle.law_driver.proofs.lemmas.run_owners.Taking.{runs_taken}
 use Rattle.law_driver.proofs.lemmas.run_owners.Accepted.{fresh_differs}
 use Rattle.law_driver_ring.specs.walk_members.Reached.{OpensNumbered}
 use Rattle.law_driver_ring.specs.LendOpened.{opened_head}
-use Rattle.claims_driver.specs.Scripts.{OpensAsynchronous}
+use Rattle.law_driver.specs.AsynchronousScripts.{OpensAsynchronous}
 use Rattle.law_driver.specs.chained_transfers.Asynchronous.{IsOpenedAsynchronous}
 use Rattle.law_world.specs.streams.narrowed_streams.Narrowed.{IsOnSide}
 use Rattle.law_queues.specs.standing_fronts.Reaching.{Reaches}

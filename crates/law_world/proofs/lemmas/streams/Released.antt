@@ -19,7 +19,8 @@ use Rattle.law_driver.specs.endpoint_lives.Lives.{is_one_of, may_meet}
 use Rattle.law_driver.specs.run_owners.Due.{IsDue, IsEndpointDue}
 use Rattle.law_driver.proofs.lemmas.run_owners.Reasons.{each_event_is_due}
 use Rattle.law_controller.specs.controlled_streams.Reported.{IsReported}
-use Rattle.claims_driver.specs.Scripts.{receives, comes_in, IsAsynchronous}
+use Rattle.claims_driver.specs.Scripts.{receives, comes_in}
+use Rattle.law_driver.specs.AsynchronousScripts.{IsAsynchronous}
 use Rattle.law_driver_ring.specs.fed_queues.Places.{IsThere}
 use Rattle.law_queues.specs.told_endpoints.Telling.{named_of, IsToldTo}
 use Rattle.law_queues.specs.harvest_laws.Told.{ToldStands}

@@ -14,7 +14,7 @@ use Rattle.law_scripts.specs.Numbers.{NumbersOpens}
 use Rattle.bus_wire.specs.Bus.{opening_bus}
 use Rattle.law_devices.specs.declared_controls.Names.{HasItsName, NamesEndpoints}
 use Rattle.law_devices.specs.declared_controls.Zero.{AreZeroesAlone}
-use Rattle.claims_driver.specs.Scripts.{AsynchronousOnly}
+use Rattle.law_driver.specs.AsynchronousScripts.{AsynchronousOnly}
 use Rattle.law_world.specs.streams.Moments.{IsAsynchronousScript}
 use Rattle.law_world.specs.streams.FeedingSamples.{one_get}
 

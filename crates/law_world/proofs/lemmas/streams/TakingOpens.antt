@@ -40,7 +40,8 @@ use Rattle.law_controller.specs.controlled_streams.Opened.{with_stream, with_end
 use Rattle.law_controller.proofs.lemmas.controlled_streams.Beginning.{end_here, end_beside, stream_here, ends_with_one, ends_with_other}
 use Rattle.law_controller.proofs.lemmas.controlled_streams.Alike.{alike_ends}
 use Rattle.law_driver.specs.chained_transfers.Bulk.{IsDataWay}
-use Rattle.claims_driver.specs.Scripts.{receives, comes_in, IsAsynchronous}
+use Rattle.claims_driver.specs.Scripts.{receives, comes_in}
+use Rattle.law_driver.specs.AsynchronousScripts.{IsAsynchronous}
 use Rattle.law_driver.proofs.lemmas.chained_transfers.Ways.{data_or_control, data_comes_in, way_goes_out, sends_comes_not}
 use Rattle.law_driver_ring.specs.fed_queues.Places.{HasHead, HasThere}
 use Rattle.law_queues.specs.open_laws.Opens.{IsOpenLent, IsAtOpen, head_then, hand_then, end_then, streams_then}

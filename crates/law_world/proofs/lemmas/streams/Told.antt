@@ -17,7 +17,8 @@ use Rattle.law_driver.proofs.lemmas.endpoint_lives.Lives.{any_there, there_any}
 use Rattle.law_driver_ring.specs.fed_queues.Places.{IsThere, HasThere}
 use Rattle.drv_table.specs.Words.{is_control}
 use Rattle.law_driver.specs.chained_transfers.Bulk.{IsDataWay}
-use Rattle.claims_driver.specs.Scripts.{receives, comes_in, IsAsynchronous, IsKindOf}
+use Rattle.claims_driver.specs.Scripts.{receives, comes_in}
+use Rattle.law_driver.specs.AsynchronousScripts.{IsAsynchronous, IsKindOf}
 use Rattle.claims_report.specs.Streams.{has_stream}
 use Rattle.claims_world.specs.Requests.{opens}
 use Rattle.law_world.specs.streams.Feeding.{there_of}

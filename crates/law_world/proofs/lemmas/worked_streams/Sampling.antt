@@ -13,7 +13,7 @@ use Rattle.law_scripts.specs.Numbers.{NumbersOpens}
 use Rattle.bus_wire.specs.Bus.{opening_bus}
 use Rattle.law_devices.specs.declared_controls.Names.{HasItsName, NamesEndpoints}
 use Rattle.law_devices.specs.declared_controls.Zero.{AreZeroesAlone}
-use Rattle.claims_driver.specs.Scripts.{AsynchronousOnly}
+use Rattle.law_driver.specs.AsynchronousScripts.{AsynchronousOnly}
 use Rattle.law_world.specs.streams.Moments.{IsAsynchronousScript, IsWholeThroughout}
 use Rattle.law_world.specs.streams.Asynchronous.{InStreamsAreRightThroughout}
 use Rattle.law_world.proofs.lemmas.streams.Running.{scripts_stay_whole, streams_are_right}

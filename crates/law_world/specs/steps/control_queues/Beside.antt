@@ -23,7 +23,7 @@ use Rattle.law_structures.specs.lent_structures.Structures.{StructureSets}
 use Rattle.law_ring.specs.Hand.{Hand}
 use Rattle.claims_base.specs.Controller.{Base}
 use Rattle.hc_core.specs.Controller.{Content}
-use Rattle.claims_driver.specs.Scripts.{OpensAsynchronous}
+use Rattle.law_driver.specs.AsynchronousScripts.{OpensAsynchronous}
 use Rattle.law_driver.specs.chained_transfers.Asynchronous.{OnlyAsynchronous}
 use Rattle.law_controller.specs.controlled_streams.Control.{IsControlled, ControlEffect}
 use Rattle.law_queues.specs.released_queues.Fronts.{FrontsStand}

@@ -33,7 +33,8 @@ use Rattle.claims_driver.specs.Leaving.{HasOwners}
 use Rattle.claims_driver.specs.Owners.{note_in}
 use Rattle.law_driver.specs.run_owners.Accepts.{Opens, Transfers}
 use Rattle.law_driver.specs.chained_transfers.Bulk.{sort_by}
-use Rattle.claims_driver.specs.Scripts.{receives, OpensAsynchronous}
+use Rattle.claims_driver.specs.Scripts.{receives}
+use Rattle.law_driver.specs.AsynchronousScripts.{OpensAsynchronous}
 use Rattle.law_driver.specs.chained_transfers.AsynchronousTurns.{AsynchronousTakesTurns}
 use Rattle.law_driver.specs.chained_transfers.Out.{out_now}
 use Rattle.law_structures.specs.lent_structures.Structures.{StructureSets, Tells}

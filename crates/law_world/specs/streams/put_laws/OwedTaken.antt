@@ -27,7 +27,8 @@ use Rattle.drv_table.specs.Rows.{driver_row, after_driver_row}
 use Rattle.drv_table.specs.Words.{queue_head}
 use Rattle.law_driver.specs.run_owners.Due.{IsHarvestDue}
 use Rattle.claims_driver.specs.Leaving.{HasOwners}
-use Rattle.claims_driver.specs.Scripts.{receives, OpensAsynchronous}
+use Rattle.claims_driver.specs.Scripts.{receives}
+use Rattle.law_driver.specs.AsynchronousScripts.{OpensAsynchronous}
 use Rattle.law_driver.specs.chained_transfers.AsynchronousTurns.{AsynchronousTakesTurns}
 use Rattle.law_driver.specs.chained_transfers.Out.{out_now}
 use Rattle.law_structures.specs.lent_structures.Structures.{StructureSets, Tells}

@@ -15,7 +15,8 @@ use Rattle.law_ring.specs.OutBus.{Taker}
 use Rattle.law_devices.specs.scripted_takers.Takers.{taker_of}
 use Rattle.claims_report.specs.Samples.{AreRightStreams}
 use Rattle.drv_table.specs.declared.content.Endpoint.{Endpoint}
-use Rattle.claims_driver.specs.Scripts.{receives, AsynchronousOnly}
+use Rattle.claims_driver.specs.Scripts.{receives}
+use Rattle.law_driver.specs.AsynchronousScripts.{AsynchronousOnly}
 use Rattle.law_driver.specs.chained_transfers.Asynchronous.{OnlyAsynchronous}
 use Rattle.bus_world.specs.World.{World}
 use Rattle.bus_world.specs.Orders.{OrderedWorld}

@@ -20,7 +20,7 @@ use Rattle.drv_table.specs.Rows.{driver_row}
 use Rattle.bus_world.specs.World.{World, driver_parts, driver_next, controller_next, commanded}
 use Rattle.bus_world.specs.Opening.{opening_world}
 use Rattle.law_world.specs.steps.Streaming.{Streams, Standing}
-use Rattle.claims_driver.specs.Scripts.{OpensAsynchronous}
+use Rattle.law_driver.specs.AsynchronousScripts.{OpensAsynchronous}
 use Rattle.law_queues.specs.fed_lends.ToLend.{IsToBeLent}
 use Rattle.law_queues.specs.open_laws.Lends.{IsOpenReady}
 use Rattle.law_queues.specs.open_laws.Opens.{IsOpenLent}

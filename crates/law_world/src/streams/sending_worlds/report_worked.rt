@@ -4,7 +4,7 @@ ghost use Rattle.bus_wire.specs.Bus.{fixed_of};
 ghost use Rattle.claims_report.specs.Reports.{Taken, Acted, taken};
 ghost use Rattle.claims_report.specs.Samples.{receiver, control};
 ghost use Rattle.claims_report.specs.Samples.{AreRightStreams};
-ghost use Rattle.claims_driver.specs.Scripts.{AsynchronousOnly};
+ghost use Rattle.law_driver.specs.AsynchronousScripts.{AsynchronousOnly};
 ghost use Rattle.law_world.specs.streams.right_reports.Samples.{both_ways};
 ghost use Rattle.claims_world.specs.Streams.{report_of, IsTakenSent};
 ghost use Rattle.law_world.specs.streams.Asynchronous.{AreSentStreams};

@@ -1,7 +1,7 @@
 use Rattle.std.proofs.Common.{refl, arith}
 use Rattle.claims_driver.specs.Walk.{IsNumbered}
 use Rattle.law_driver.specs.chained_transfers.Bulk.{IsBulk}
-use Rattle.claims_driver.specs.Scripts.{IsAsynchronous}
+use Rattle.law_driver.specs.AsynchronousScripts.{IsAsynchronous}
 use Rattle.law_driver.proofs.lemmas.chained_transfers.BulkAndControl.{bulk_asynchronous}
 use Rattle.law_queues.specs.commanded_queues.Samples.{highest, highest_out, highest_control}
 use Rattle.law_queues.proofs.lemmas.commanded_queues.Ranges.{new_head_range}

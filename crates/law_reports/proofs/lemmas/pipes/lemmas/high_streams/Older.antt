@@ -13,7 +13,8 @@ use Rattle.script_types.specs.declared.scripts.Script.{Script}
 use Rattle.bus_wire.specs.Bus.{fixed_of}
 use Rattle.claims_report.specs.Reports.{WholeReport, taken}
 use Rattle.claims_report.specs.Streams.{is_refused, command_in, accepted_in, open_in, opened, stream, has_stream, IsRightStream}
-use Rattle.claims_driver.specs.Scripts.{comes_in, receives, IsAsynchronous, OpensAsynchronous, AsynchronousLine, AsynchronousOnly}
+use Rattle.claims_driver.specs.Scripts.{comes_in, receives}
+use Rattle.law_driver.specs.AsynchronousScripts.{IsAsynchronous, OpensAsynchronous, AsynchronousLine, AsynchronousOnly}
 use Rattle.claims_world.specs.Streams.{report_of, IsTakenStream, IsTakenSent}
 use Rattle.drv_table.specs.Words.{is_high}
 use Rattle.law_world.proofs.lemmas.streams.lemmas.right_reports.Right.{all_mapped}

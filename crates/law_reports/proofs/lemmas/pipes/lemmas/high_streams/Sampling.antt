@@ -1,7 +1,7 @@
 -- Bytes that differ, and a script that is of no class.
 use Rattle.std.proofs.Common.{◌≡◌, ℕ, List, [], ◌∷◌}
 use Rattle.usb_base.specs.declared.packets.EpKind.TheVariants as kinds
-use Rattle.claims_driver.specs.Scripts.{AsynchronousOnly}
+use Rattle.law_driver.specs.AsynchronousScripts.{AsynchronousOnly}
 use Rattle.law_opened.specs.Samples.{beside_split}
 
 pub other_byte : (xs : List ℕ) → 1 ∷ 3 ∷ xs ≡ 1 ∷ 2 ∷ [] → ⊥

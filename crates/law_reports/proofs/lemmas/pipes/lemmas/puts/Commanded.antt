@@ -21,7 +21,7 @@ use Rattle.usb_base.specs.declared.packets.Way.TheVariants as ways
 use Rattle.usb_base.specs.declared.reports.OfferError.{OfferError}
 use Rattle.bus_wire.specs.Bus.{Fixed}
 use Rattle.claims_driver.specs.Leaving.{HasOwners}
-use Rattle.claims_driver.specs.Scripts.{OpensAsynchronous}
+use Rattle.law_driver.specs.AsynchronousScripts.{OpensAsynchronous}
 use Rattle.claims_report.specs.Streams.{has_stream}
 use Rattle.drv_table.specs.Accepting.{Offered, new_runs}
 use Rattle.drv_periodic_table.specs.Periodic.{is_periodic}

@@ -23,7 +23,7 @@ use Rattle.claims_driver.specs.Owners.{NoteRuns, note_in}
 use Rattle.law_driver.specs.chained_transfers.Chains.{piece_at}
 use Rattle.law_driver.specs.chained_transfers.Turns.{Turn, turn_of, turn_in, AreReportedTo, AreInTurn}
 use Rattle.law_driver.specs.chained_transfers.Out.{pieces_from, passed, out_of_transfer}
-use Rattle.claims_driver.specs.Scripts.{IsKindOf}
+use Rattle.law_driver.specs.AsynchronousScripts.{IsKindOf}
 use Rattle.law_driver.specs.chained_transfers.Bulk.{MovesAs, IsDataWay}
 use Rattle.law_driver.proofs.lemmas.chained_transfers.Holding.{stands_unreleased}
 use Rattle.law_driver_ring.specs.told_harvests.Held.{IsRead}

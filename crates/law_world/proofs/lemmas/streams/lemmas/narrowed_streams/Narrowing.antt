@@ -12,7 +12,8 @@ use Rattle.drv_table.specs.Kinds.{is_iso}
 use Rattle.drv_table.specs.Words.{head_block, queue_head, is_control}
 use Rattle.law_driver.proofs.lemmas.ring_members.Placed.{queue_off_head, queues_apart}
 use Rattle.law_ring.specs.Told.{Endpoint as Told, endpoint_of}
-use Rattle.claims_driver.specs.Scripts.{receives, comes_in, IsKindOf}
+use Rattle.claims_driver.specs.Scripts.{receives, comes_in}
+use Rattle.law_driver.specs.AsynchronousScripts.{IsKindOf}
 use Rattle.law_driver.specs.chained_transfers.Asynchronous.{OnlyAsynchronous}
 use Rattle.law_driver.proofs.lemmas.chained_transfers.BulkAndControl.{not_iso}
 use Rattle.law_driver.specs.endpoint_lives.Lives.{may_meet}

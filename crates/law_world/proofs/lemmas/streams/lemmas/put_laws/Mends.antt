@@ -12,7 +12,8 @@ use Rattle.drv_table.specs.DriverContent.{DriverContent}
 use Rattle.drv_table.specs.Parts.{Parts as DriverParts}
 use Rattle.drv_table.specs.Words.{is_control}
 use Rattle.claims_driver.specs.Leaving.{HasOwners}
-use Rattle.claims_driver.specs.Scripts.{receives, IsKindOf}
+use Rattle.claims_driver.specs.Scripts.{receives}
+use Rattle.law_driver.specs.AsynchronousScripts.{IsKindOf}
 use Rattle.law_driver.specs.chained_transfers.AsynchronousTurns.{AsynchronousTakesTurns}
 use Rattle.law_structures.specs.lent_structures.Structures.{QueueHead, Structures, StructureSets}
 use Rattle.law_structures.proofs.lemmas.lent_structures.Names.{put_beside}

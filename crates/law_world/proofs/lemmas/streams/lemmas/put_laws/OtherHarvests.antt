@@ -28,7 +28,8 @@ use Rattle.drv_table.specs.Parts.{Parts}
 use Rattle.drv_table.specs.Harvesting.{served, told_with, behind_one, behind, mends_of, after_end, harvested_as, after_harvest}
 use Rattle.drv_table.specs.Rows.{after_driver_row}
 use Rattle.law_driver.specs.run_owners.Due.{IsHarvestDue}
-use Rattle.claims_driver.specs.Scripts.{IsKindOf, IsAsynchronous, receives}
+use Rattle.claims_driver.specs.Scripts.{receives}
+use Rattle.law_driver.specs.AsynchronousScripts.{IsKindOf, IsAsynchronous}
 use Rattle.law_driver.specs.chained_transfers.AsynchronousTurns.{AsynchronousTakesTurns}
 use Rattle.law_driver.proofs.lemmas.chained_transfers.Rows.{set_which}
 use Rattle.law_driver_ring.proofs.lemmas.walk_members.Descriptions.{desc_of, row_left}

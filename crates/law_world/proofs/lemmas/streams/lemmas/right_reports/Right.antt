@@ -30,7 +30,8 @@ use Rattle.claims_world.specs.Streams.{closings_of, report_of}
 use Rattle.law_world.specs.streams.Asynchronous.{AreRightInStreams}
 use Rattle.law_world.specs.streams.right_reports.Laws.{BeginsEach}
 use Rattle.law_world.proofs.lemmas.streams.lemmas.right_reports.Named.{HasNamed, NoneNamed, search, named_is, none_pending}
-use Rattle.claims_driver.specs.Scripts.{comes_in, IsKindOf}
+use Rattle.claims_driver.specs.Scripts.{comes_in}
+use Rattle.law_driver.specs.AsynchronousScripts.{IsKindOf}
 use Rattle.law_driver.specs.chained_transfers.Bulk.{IsDataWay}
 use Rattle.law_driver.specs.chained_transfers.Asynchronous.{StandsAsynchronous, OnlyAsynchronous}
 

@@ -12,7 +12,7 @@ use Rattle.bus_world.specs.World.{World, driver_next, controller_next, commanded
 use Rattle.bus_world.specs.Budgets.{moment}
 use Rattle.law_world.specs.steps.Streaming.{Streams}
 use Rattle.law_world.proofs.lemmas.streams.lemmas.taken_reports.Seating.{moment_is_seated}
-use Rattle.claims_driver.specs.Scripts.{AsynchronousOnly}
+use Rattle.law_driver.specs.AsynchronousScripts.{AsynchronousOnly}
 use Rattle.law_world.specs.steps.receiving_runs.Runs.{KindOfLine}
 use Rattle.law_world.specs.steps.Takers.{takes_of}
 use Rattle.law_world.specs.streams.put_laws.TakenPuts.{puts_at}

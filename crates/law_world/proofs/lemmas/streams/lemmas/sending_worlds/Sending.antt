@@ -26,7 +26,8 @@ use Rattle.drv_table.specs.DriverContent.{opened}
 use Rattle.bus_world.specs.Orders.{OrderedWorld}
 use Rattle.law_world.specs.steps.Streaming.{wired}
 use Rattle.law_driver.specs.chained_transfers.Bulk.{IsDataWay}
-use Rattle.claims_driver.specs.Scripts.{receives, comes_in, IsAsynchronous, OpensAsynchronous, AsynchronousLine, AsynchronousOnly}
+use Rattle.claims_driver.specs.Scripts.{receives, comes_in}
+use Rattle.law_driver.specs.AsynchronousScripts.{IsAsynchronous, OpensAsynchronous, AsynchronousLine, AsynchronousOnly}
 use Rattle.law_driver.specs.chained_transfers.Asynchronous.{OnlyAsynchronous}
 use Rattle.law_driver.proofs.lemmas.chained_transfers.Ways.{data_comes_in}
 use Rattle.claims_world.specs.Streams.{report_of, IsToldTaken, IsTakenStream, IsTakenSent}

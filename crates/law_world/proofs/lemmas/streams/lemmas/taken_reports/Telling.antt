@@ -34,7 +34,8 @@ use Rattle.law_queues.specs.told_endpoints.Telling.{named_of, named_in, lines_in
 use Rattle.law_queues.proofs.lemmas.told_endpoints.Lines.{once_without}
 use Rattle.bus_world.specs.World.{World}
 use Rattle.law_world.specs.steps.Streaming.{wired}
-use Rattle.claims_driver.specs.Scripts.{IsKindOf, receives}
+use Rattle.claims_driver.specs.Scripts.{receives}
+use Rattle.law_driver.specs.AsynchronousScripts.{IsKindOf}
 use Rattle.law_driver.specs.chained_transfers.Asynchronous.{OnlyAsynchronous}
 use Rattle.law_driver.specs.chained_transfers.Bulk.{IsDataWay}
 use Rattle.claims_world.specs.Streams.{closings_of, report_of, IsToldTaken, IsTakenStream}
