@@ -6,7 +6,7 @@
 //!   `schedule`, `memory`, `reach` and `releases`.
 //! - specs/Visits.antt, specs/Microframes.antt, specs/Prices.antt, specs/WithinLoad.antt, specs/InTime.antt: the clauses `visits`,
 //!   `microframes`, `within_load` and `in_time`.
-//! - specs/HighStreams.antt, specs/Requests.antt: the clauses `streams` and `requests`.
+//! - specs/HighStreams.antt, specs/BelowStreams.antt: the clause `streams`; specs/Requests.antt: the clause `requests`.
 //!
 //! The clause `budgets` is in `bus_world`, whose run promises it (specs/Budgets.antt). There is no code, and no proof.
 #![tactic(auto)]

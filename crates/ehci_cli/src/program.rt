@@ -133,6 +133,9 @@ use usb_base::{Sink, Source};
 /// whatever is lost, damaged or held, and whatever else is asked and answers. After the run these are all its streams at high speed.
 /// The same holds of the bytes of each bulk OUT endpoint behind a hub of the script, whatever is asked of the hub; but its device may take
 /// more behind the line that tells its end.
+/// The bytes that the report tells of each bulk IN endpoint behind a hub of the script begin its stream, too, and nothing follows its end,
+/// at each moment before which the hub never heard as its last request that it clears a buffer or resets a translator, and after a run in
+/// which it never did.
 ///
 /// Whatever the script opens, no line follows the one that tells the end of a bulk, interrupt or isochronous endpoint, and nothing of it is
 /// pending then, at each moment and after the run. No line tells a missed microframe of an endpoint at high speed.

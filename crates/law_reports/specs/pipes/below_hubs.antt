@@ -4,3 +4,6 @@ pub mod Behind
 pub mod BehindLaws
 pub mod BelowLaws
 pub mod Samples
+pub mod Inward
+pub mod InwardLaws
+pub mod DeafLaws

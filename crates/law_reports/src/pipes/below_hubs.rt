@@ -17,6 +17,16 @@ ghost use Rattle.law_reports.specs.pipes.below_hubs.BehindLaws.{
   ScriptsAreBehind,
   TextsAreBehind,
 };
+ghost use Rattle.law_reports.specs.pipes.below_hubs.InwardLaws.{
+  SparedHubsKeepKeys,
+  ControllerKeepsInward,
+  DriverKeepsInward,
+  CommandKeepsInward,
+  TextsOpenInlets,
+  TextsAreInward,
+  TextsKeepInsBelow,
+};
+ghost use Rattle.law_reports.specs.pipes.below_hubs.DeafLaws.{UnopenedHubsAreSpared};
 ghost use Rattle.law_reports.specs.pipes.below_hubs.BelowLaws.{TextsKeepBelowStreams, TextsKeepStreams};
 
 /// Each step of a queue leaves host, hub and device of such an endpoint as they must stand, while its queue head is still met.
@@ -57,4 +67,26 @@ pub fn each_moment_has_outs_below()
 pub fn each_script_keeps_outs_below()
     ensures below { TextsKeepBelowStreams }
     ensures streams { TextsKeepStreams }
+{}
+
+/// Each event and each command leaves an IN endpoint as it must stand; at an event of the controller its hub must be spared: the last
+/// request that it heard neither clears a buffer nor resets a translator.
+pub fn an_event_keeps_ins_below()
+    ensures spared { SparedHubsKeepKeys }
+    ensures controller { ControllerKeepsInward }
+    ensures driver { DriverKeepsInward }
+    ensures command { CommandKeepsInward }
+{}
+
+/// So it stands at each moment of each script before which its hub was spared, whatever endpoints the script opens; and so what is told of
+/// it begins its device's stream.
+pub fn each_moment_has_ins_below()
+    ensures opening { TextsOpenInlets }
+    ensures standing { TextsAreInward }
+    ensures streams { TextsKeepInsBelow }
+{}
+
+/// A hub whose endpoint 0 no line of the script opens hears no request, so it is spared at each moment.
+pub fn an_unopened_hub_is_spared()
+    ensures { UnopenedHubsAreSpared }
 {}

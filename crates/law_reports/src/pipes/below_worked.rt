@@ -1,10 +1,19 @@
-//! Worked rows of bulk OUT endpoints below hubs, which the check computes.
+//! Worked rows of bulk endpoints below hubs, which the check computes.
 ghost use Rattle.std.specs.Prelude.{◌≡◌, [], ◌∷◌, true, false, Some, None};
 ghost use Rattle.claims_world.specs.Streams.{IsToldTaken, IsTakenSent};
-ghost use Rattle.claims_world.specs.BelowStreams.{is_claimed_below};
+ghost use Rattle.usb_base.specs.declared.packets.EpKind.TheVariants.{Bulk};
+ghost use Rattle.usb_base.specs.declared.packets.Pid.TheVariants as Pids;
+ghost use Rattle.usb_base.specs.declared.packets.Reply.TheVariants as Replies;
+ghost use Rattle.hub_class.specs.Requesting.{requested};
+ghost use Rattle.hub_class.specs.Translating.{transact_reply};
+ghost use Rattle.hub_class.specs.Worked as hubs;
+ghost use Rattle.claims_world.specs.BelowStreams.{is_claimed_below, is_claimed_in, heard_clear};
 ghost use Rattle.law_reports.specs.pipes.below_hubs.Behind.{sent_in};
 ghost use Rattle.law_reports.specs.pipes.below_hubs.BehindLaws.{spots_of};
-ghost use Rattle.law_reports.specs.pipes.below_hubs.Samples.{page, printer};
+ghost use Rattle.law_reports.specs.pipes.below_hubs.Inward.{is_inlet};
+ghost use Rattle.law_reports.specs.pipes.below_hubs.InwardLaws.{inlet_of};
+ghost use Rattle.law_reports.specs.pipes.below_hubs.Samples.{page, printer, sheet, scanner, asks_hub};
+ghost use Rattle.law_reports.specs.pipes.below_hubs.DeafLaws.{IsUnopenedHub};
 
 /// An endpoint is in the claim where a hub of the script has its port: the last of four; not a fifth, none, or one of another hub.
 pub fn an_endpoint_has_its_hub()
@@ -30,4 +39,44 @@ pub fn a_hub_works_on()
     ensures told { IsToldTaken (7 ∷ []) (Some (7 ∷ 8 ∷ [])) }
     ensures untaken { IsToldTaken (7 ∷ 8 ∷ []) (Some (7 ∷ [])) → ⊥ }
     ensures unput { IsTakenSent (Some (7 ∷ 9 ∷ [])) (7 ∷ 8 ∷ []) → ⊥ }
+{}
+
+/// So is an IN endpoint, which no row of OUT endpoints names.
+pub fn an_in_endpoint_has_its_hub()
+    ensures last { is_claimed_in scanner (sheet (Some 9) 4) ≡ true }
+    ensures fifth { is_claimed_in scanner (sheet (Some 9) 5) ≡ false }
+    ensures other { is_claimed_in scanner (sheet (Some 8) 4) ≡ false }
+    ensures outward { is_claimed_in printer (page (Some 9) 4) ≡ false }
+    ensures inward { is_claimed_below scanner (sheet (Some 9) 4) ≡ false }
+{}
+
+/// Its inlet: the first hub, and its one translator, with the packets that the script gives its device.
+pub fn a_scanner_has_its_inlet()
+    ensures hub { (inlet_of scanner (sheet (Some 9) 4)).hub ≡ 0 }
+    ensures place { (inlet_of scanner (sheet (Some 9) 4)).place ≡ 0 }
+    ensures packets { (inlet_of scanner (sheet (Some 9) 4)).packets ≡ (7 ∷ 8 ∷ []) ∷ (9 ∷ []) ∷ [] }
+    ensures own { is_inlet (inlet_of scanner (sheet (Some 9) 4)) 3 1 ≡ true }
+    ensures other { is_inlet (inlet_of scanner (sheet (Some 9) 4)) 3 2 ≡ false }
+{}
+
+/// A hub is spared that heard to reset a port, or heard nothing; not one that heard to clear a buffer or to reset a translator.
+pub fn a_hub_is_spared()
+    ensures silence { heard_clear hubs.hub ≡ false }
+    ensures port { heard_clear (hubs.told hubs.set_reset hubs.hub) ≡ false }
+    ensures buffer { heard_clear (hubs.told hubs.clear_first hubs.hub) ≡ true }
+    ensures translator { heard_clear (hubs.told hubs.reset_translator hubs.hub) ≡ true }
+{}
+
+/// What such requests do to a start that a translator holds: the reset of its port leaves it; it is thrown away where its buffer is
+/// cleared, and where its translator is reset.
+pub fn a_clear_throws_away()
+    ensures kept { transact_reply (hubs.complete Bulk) (requested hubs.set_reset hubs.both_started) ≡ Replies.Hand Pids.Nyet }
+    ensures cleared { transact_reply (hubs.complete Bulk) (requested hubs.clear_first hubs.both_started) ≡ Replies.Silent }
+    ensures reset { transact_reply (hubs.complete Bulk) (requested hubs.reset_translator hubs.both_started) ≡ Replies.Silent }
+{}
+
+/// The scanner's script doesn't open endpoint 0 of its hub; another does.
+pub fn a_hub_is_unopened()
+    ensures unopened { IsUnopenedHub scanner (sheet (Some 9) 4) }
+    ensures opened { IsUnopenedHub asks_hub (sheet (Some 9) 4) → ⊥ }
 {}

@@ -1,4 +1,4 @@
--- The streams of bulk OUT endpoints below hubs are right at each moment of each script (EHCI 1.0, 4.6 to 4.12; USB 2.0, 5.8, 8.5, 8.6 and
+-- The streams of bulk endpoints below hubs are right at each moment of each script (EHCI 1.0, 4.6 to 4.12; USB 2.0, 5.8, 8.5, 8.6 and
 -- 11.17).
 --     TextsKeepBelowStreams     so it is of each script that a text spells, and after its run
 --     TextsKeepStreams          .. with those of the endpoints at high speed

@@ -1,6 +1,8 @@
--- A printer at full speed behind a hub of four ports, for worked rows.
+-- A printer and a scanner at full speed behind a hub of four ports, for worked rows.
 --     page hub port     its bulk OUT endpoint, as a line may describe it
 --     printer           the script: it opens the endpoint, puts two packets to it, and clears the hub's buffer in between
+--     sheet hub port, scanner     the bulk IN endpoint of a scanner, which has two packets; and the script that reads both
+--     asks_hub          .. and opens endpoint 0 of the hub
 use Rattle.std.specs.Prelude.{ℕ, false, [], ◌∷◌, Option, Some, None}
 use Rattle.usb_base.specs.declared.commands.Cmd.TheVariants as commands
 use Rattle.usb_base.specs.declared.endpoints.EpDesc.{EpDesc}
@@ -8,6 +10,7 @@ use Rattle.usb_base.specs.declared.endpoints.EpName.{EpName}
 use Rattle.usb_base.specs.declared.packets.EpKind.TheVariants as kinds
 use Rattle.usb_base.specs.declared.packets.Speed.TheVariants as speeds
 use Rattle.usb_base.specs.declared.packets.Way.TheVariants as ways
+use Rattle.script_types.specs.declared.devices.Item.TheVariants.{Bytes}
 use Rattle.script_types.specs.declared.scripts.Line.TheVariants as lines
 use Rattle.script_types.specs.declared.scripts.Script.{Script}
 use Rattle.law_opened.specs.Samples.{beside_split}
@@ -39,3 +42,36 @@ printer = record beside_split {
   endpoints = page_name ∷ [];
   lines = (5, lines.Command (commands.OpenEp (page (Some 9) 4))) ∷ (6, lines.Command (commands.Put page_name (7 ∷ 8 ∷ []) 512)) ∷ [];
 }
+
+abbrev pub sheet_name : EpName
+sheet_name = record { addr = 3; num = 1; way = ways.In }
+
+abbrev pub sheet : Option ℕ → ℕ → EpDesc
+sheet hub port = record (page hub port) { name = sheet_name }
+
+abbrev pub scanner : Script
+scanner = record printer {
+  devices = record {
+    addr = 3;
+    speed = speeds.Full;
+    eps = record { desc = sheet (Some 9) 4; items = Bytes (7 ∷ 8 ∷ []) ∷ Bytes (9 ∷ []) ∷ []; room = 0; stuff = 0; clears = 0 } ∷ [];
+  } ∷ [];
+  endpoints = sheet_name ∷ [];
+  lines = (5, lines.Command (commands.OpenEp (sheet (Some 9) 4))) ∷ (6, lines.Command (commands.Get sheet_name 16 512)) ∷ [];
+}
+
+abbrev pub hub_control : EpDesc
+hub_control = record {
+  name = record { addr = 9; num = 0; way = ways.Ctl };
+  speed = speeds.High;
+  kind = kinds.Control;
+  max = 64;
+  period = 0;
+  multi = 1;
+  hub = None;
+  port = 0;
+  tt = 0;
+}
+
+abbrev pub asks_hub : Script
+asks_hub = record scanner { lines = (5, lines.Command (commands.OpenEp hub_control)) ∷ [] }

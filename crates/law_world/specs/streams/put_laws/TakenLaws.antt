@@ -9,6 +9,8 @@
 --     StreamsArePuts s p puts      the puts of an OUT endpoint begin its stream in the report, and are all of it at the end of the run
 --     StreamsAreOfPuts      so it is at each moment
 --     IsKeptWithPuts, HoldsWithPuts     what each event and command keeps of worlds and puts holds at each moment of them
+--     IsKeptWhile, HoldsWhile     .. where an event of the controller keeps it in some worlds alone, at each moment before which all were
+--                                 such
 use Rattle.std.specs.Prelude.{◌≡◌, ℕ, ◌<◌, true, false, List, [], ◌∷◌, ◌++◌, length, slice_get, Some}
 use Rattle.std.specs.List.{AllByRecursion, concat}
 use Rattle.usb_base.specs.declared.commands.Cmd.{Cmd}
@@ -83,3 +85,13 @@ pub record IsKeptWithPuts (fixed : Fixed) (can : Cmd → Type 0) (holds : World 
 abbrev pub HoldsWithPuts : (Cmd → Type 0) → (World → (ℕ → List ℕ) → Type 0) → Type 0
 HoldsWithPuts can holds = (s : Script) → IsFit s → AllByRecursion (λ line. KindOfLine can line.1) s.lines → holds (opening_world s) no_puts → IsKeptWithPuts (fixed_of s) can holds
     → (k : ℕ) → holds (moment s k).world (puts_at s k)
+
+pub record IsKeptWhile (fixed : Fixed) (can : Cmd → Type 0) (ok : World → Type 0) (holds : World → (ℕ → List ℕ) → Type 0) : Type 0 where
+  pub driver : (w : World) (puts : ℕ → List ℕ) → holds w puts → holds (driver_next w) puts
+  pub controller : (w : World) (puts : ℕ → List ℕ) → ok w → holds w puts → holds (controller_next fixed w) puts
+  pub command : (w : World) (line : ℕ) (cmd : Cmd) (puts : ℕ → List ℕ) → can cmd → IsOffered w.driver.room cmd → holds w puts
+      → holds (commanded w line cmd) (puts_then w.driver cmd puts)
+
+abbrev pub HoldsWhile : (Cmd → Type 0) → (World → Type 0) → (World → (ℕ → List ℕ) → Type 0) → Type 0
+HoldsWhile can ok holds = (s : Script) → IsFit s → AllByRecursion (λ line. KindOfLine can line.1) s.lines → holds (opening_world s) no_puts
+    → IsKeptWhile (fixed_of s) can ok holds → (k : ℕ) → ((j : ℕ) → j < k → ok (moment s j).world) → holds (moment s k).world (puts_at s k)

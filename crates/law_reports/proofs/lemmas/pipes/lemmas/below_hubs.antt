@@ -16,3 +16,14 @@ pub mod BehindMoments
 pub mod BelowReporting
 pub mod BelowKept
 pub mod BelowSampled
+pub mod SparedHubs
+pub mod InwardControlled
+pub mod InwardDriven
+pub mod InwardCommanded
+pub mod InwardMoments
+pub mod BelowSenders
+pub mod InwardTexts
+pub mod InwardRuns
+pub mod InwardReporting
+pub mod DeafHubs
+pub mod DeafRuns

@@ -66,7 +66,7 @@ use Rattle.law_reports.proofs.lemmas.pipes.lemmas.puts.Steps.{part_at}
 
 -- ---- kinds
 
-bulk_is : (kind : EpKind) → is_bulk kind ≡ true → kind ≡ kinds.Bulk
+pub bulk_is : (kind : EpKind) → is_bulk kind ≡ true → kind ≡ kinds.Bulk
 bulk_is kinds.Bulk is = refl
 bulk_is _ is = absurd (false≢true is)
 

@@ -112,7 +112,7 @@ left_less o wire A addr ep bytes more front l = record {
 
 -- ---- the speed of one below a hub
 
-slow_field : (speed : Speed) → is_high speed ≡ false → (speed_field speed == 2) ≡ false
+pub slow_field : (speed : Speed) → is_high speed ≡ false → (speed_field speed == 2) ≡ false
 slow_field speeds.High off = absurd (true≢false off)
 slow_field speeds.Full off = refl
 slow_field speeds.Low off = refl

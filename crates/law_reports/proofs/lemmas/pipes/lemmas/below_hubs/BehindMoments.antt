@@ -114,7 +114,7 @@ command_keeps_behind fixed x o puts w line cmd fits declares spotted bytes room 
 
 -- ---- each moment
 
-none_there : (s : Script) (e : ℕ) (y : Endpoint) → slice_get (opening_world s).driver.endpoints e ≡ Some y → ⊥
+pub none_there : (s : Script) (e : ℕ) (y : Endpoint) → slice_get (opening_world s).driver.endpoints e ≡ Some y → ⊥
 none_there s e y here = cc
 
 pub new_world_is_behind : NewWorldIsBehind
@@ -138,18 +138,18 @@ new_world_is_behind s fit bytes unsent =
       };
     }
 
-abbrev CanBeBehind : Sides → Spots → Cmd → Type 0
+abbrev pub CanBeBehind : Sides → Spots → Cmd → Type 0
 CanBeBehind x o cmd = CanBePaid x cmd × OpensSpot o cmd
 
-line_behind : (x : Sides) (o : Spots) (line : Line) → KindOfLine (CanBePaid x) line → KindOfLine (OpensSpot o) line
-    → KindOfLine (CanBeBehind x o) line
-line_behind x o (lines.Command cmd) can spot = (can, spot)
-line_behind x o _ can spot = tt
+-- what a command can be, and what it opens
+kind_both : (A B : Cmd → Type 0) (line : Line) → KindOfLine A line → KindOfLine B line → KindOfLine (λ cmd. A cmd × B cmd) line
+kind_both A B (lines.Command cmd) can one = (can, one)
+kind_both A B _ can one = tt
 
-lines_behind : (x : Sides) (o : Spots) (ls : List (ℕ × Line)) → AllByRecursion (λ l. KindOfLine (CanBePaid x) l.1) ls
-    → AllByRecursion (λ l. KindOfLine (OpensSpot o) l.1) ls → AllByRecursion (λ l. KindOfLine (CanBeBehind x o) l.1) ls
-lines_behind x o [] can spots = tt
-lines_behind x o (l ∷ ls) can spots = (line_behind x o l.1 can.0 spots.0, lines_behind x o ls can.1 spots.1)
+pub kinds_both : (A B : Cmd → Type 0) (ls : List (ℕ × Line)) → AllByRecursion (λ l. KindOfLine A l.1) ls
+    → AllByRecursion (λ l. KindOfLine B l.1) ls → AllByRecursion (λ l. KindOfLine (λ cmd. A cmd × B cmd) l.1) ls
+kinds_both A B [] can ones = tt
+kinds_both A B (l ∷ ls) can ones = (kind_both A B l.1 can.0 ones.0, kinds_both A B ls can.1 ones.1)
 
 is_kept : (s : Script)
     → IsKeptWithPuts (fixed_of s) (CanBeBehind (sides_of s) (spots_of s))
@@ -164,7 +164,7 @@ is_kept s = record {
 pub scripts_are_behind : ScriptsAreBehind
 scripts_are_behind s fit bytes fits declares spots unsent k =
     holds_with_puts (CanBeBehind (sides_of s) (spots_of s)) (λ w puts. HasBehind (fixed_of s) (sides_of s) (spots_of s) puts w) s fit
-    (lines_behind (sides_of s) (spots_of s) s.lines
+    (kinds_both (CanBePaid (sides_of s)) (OpensSpot (spots_of s)) s.lines
     (lines_paid (sides_of s) s.lines (lines_both (sides_of s) s.lines (lines_can s.lines fits) declares) bytes.lines) spots)
     (new_world_is_behind s fit bytes unsent) (is_kept s) k
 

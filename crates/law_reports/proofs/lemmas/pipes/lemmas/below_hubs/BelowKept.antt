@@ -1,4 +1,4 @@
--- The streams of bulk OUT endpoints below hubs are right at each moment of each script, and after its run.
+-- The streams of bulk endpoints below hubs are right at each moment of each script, and after its run.
 use Rattle.std.proofs.Common.{ℕ, List}
 use Rattle.script_types.specs.declared.scripts.Script.{Script}
 use Rattle.script_text.specs.Faults.{Spells}
@@ -6,7 +6,8 @@ use Rattle.bus_wire.specs.Bus.{fixed_of}
 use Rattle.bus_world.specs.Budgets.{moment}
 use Rattle.bus_world.specs.Opening.{opening_world}
 use Rattle.bus_world.specs.Orders.{at_place, orders_of}
-use Rattle.claims_world.specs.BelowStreams.{AreBelowTakenStreams, AreBelowSentStreams, AreBelowStreams}
+use Rattle.claims_world.specs.BelowStreams.{AreBelowTakenStreams, AreBelowSentStreams, AreBelowStreams, AreBelowInStreams, IsSparedAt}
+use Rattle.claims_world.specs.Streams.{report_of}
 use Rattle.claims_world.specs.BelowStreams.{BelowOutsAreTaken, BelowOutsAreSent, BelowStreamsEndRight}
 use Rattle.law_world.specs.streams.put_laws.TakenLaws.{StreamsArePuts}
 use Rattle.law_world.specs.streams.put_laws.TakenPuts.{puts_at}
@@ -18,6 +19,7 @@ use Rattle.law_reports.specs.pipes.below_hubs.BelowLaws.{TextsKeepBelowStreams, 
 use Rattle.law_reports.specs.pipes.high_streams.Names.{HasItsNames}
 use Rattle.law_reports.proofs.lemmas.pipes.lemmas.below_hubs.BehindMoments.{texts_are_behind}
 use Rattle.law_reports.proofs.lemmas.pipes.lemmas.below_hubs.BelowReporting.{below_taken, below_sent, below_right}
+use Rattle.law_reports.proofs.lemmas.pipes.lemmas.below_hubs.InwardReporting.{texts_keep_ins_below, spared_more}
 use Rattle.law_reports.proofs.lemmas.pipes.lemmas.high_streams.AfterRuns.{after_run, at_end}
 use Rattle.law_reports.proofs.lemmas.pipes.lemmas.high_streams.Names.{texts_have_names}
 use Rattle.law_reports.proofs.lemmas.pipes.lemmas.high_streams.Opened.{moments_are_opened}
@@ -53,9 +55,12 @@ texts_keep_below_streams text s spelled = record {
   taken_throughout = taken text s spelled;
   sent_throughout = sent text s spelled;
   at_the_end = ends_right text s spelled;
+  ins_throughout = texts_keep_ins_below text s spelled;
   taken = after_run (AreBelowTakenStreams s) s (taken text s spelled);
   sent = after_run (AreBelowSentStreams s) s (sent text s spelled);
   all = at_end (AreBelowStreams s) s (ends_right text s spelled);
+  ins = after_run (AreBelowInStreams s (λ x. (k : ℕ) → IsSparedAt s x k)) s (λ k.
+      spared_more s k (report_of (fixed_of s) (moment s k).world) (texts_keep_ins_below text s spelled k));
 }
 
 pub texts_keep_streams : TextsKeepStreams

@@ -26,7 +26,7 @@ use Rattle.law_opened.proofs.RootTakers.{text, first, taker_there, device_there,
 use Rattle.law_below_hubs.specs.Seated.{device_place, end_seated, end_placed, taker_at}
 
 -- a seat with this address is that of the device at place n
-abbrev IsPlaced : ℕ → ℕ → Seat → Type 0
+abbrev pub IsPlaced : ℕ → ℕ → Seat → Type 0
 IsPlaced a n s = s.name.addr ≡ a → device_place s.owner ≡ Some n
 
 placed_owner : (n : ℕ) (hub : Option ℕ) (port stuff : ℕ) → device_place (owner_at n hub port stuff) ≡ Some n
@@ -61,7 +61,7 @@ address_at a x d (y ∷ es) zero is h e =
     let same : y ≡ d = cc in subst (λ b. (x == b) ≡ false) (ap (λ (p : Placed). p.addr) same ∙ is) h.0
 address_at a x d (y ∷ es) (suc i) is h e = address_at a x d es i is h.1 e
 
-placed_seats : (names : List EpName) (a n k m : ℕ) (ds : List Placed) (d : Placed) → slice_get ds m ≡ Some d → d.addr ≡ a → n ≡ k + m
+pub placed_seats : (names : List EpName) (a n k m : ℕ) (ds : List Placed) (d : Placed) → slice_get ds m ≡ Some d → d.addr ≡ a → n ≡ k + m
     → AreApart (addresses ds) → AllByRecursion (HasOwn names) ds → AllByRecursion (IsPlaced a n) (seats_from k (map device_text ds))
 placed_seats names a n k m [] d here is there apart own = tt
 placed_seats names a n k zero (x ∷ ds) d here is there apart own =
@@ -74,7 +74,7 @@ placed_seats names a n k (suc m) (x ∷ ds) d here is there apart own =
     (earlier names a n k x (address_at a x.addr d ds m is apart.0 here) own.0)
     (placed_seats names a n (k + 1) m ds d here is (omega (arith, there)) apart.1 own.1)
 
-hub_placed : (a n k : ℕ) (hs : List HubText) → AllByRecursion (λ h. (h.addr == a) ≡ false) hs
+pub hub_placed : (a n k : ℕ) (hs : List HubText) → AllByRecursion (λ h. (h.addr == a) ≡ false) hs
     → AllByRecursion (IsPlaced a n) (hub_seats_from k hs)
 hub_placed a n k [] h = tt
 hub_placed a n k (x ∷ hs) h = ((λ same. absurd (true≢false (sym (eq-eqb x.addr a same) ∙ h.0))), hub_placed a n (k + 1) hs h.1)

@@ -151,10 +151,10 @@ le_is : (a b : ℕ) → nat_le a b ≡ true → a ≤ b
 le_is a b e = grind (arith, nat_tests)
 
 pub record HasItsHub (s : Script) (d : EpDesc) : Type 0 where
-  at : IsAtHub (opening_bus s).hubs (asked_as d).hub (asked_as d).port (hub_of s d.hub) (place_of s d.hub d.port)
-  text : HubText
-  there : slice_get s.hubs (hub_of s d.hub) ≡ Some text
-  less : place_of s d.hub d.port < translators_of text
+  pub at : IsAtHub (opening_bus s).hubs (asked_as d).hub (asked_as d).port (hub_of s d.hub) (place_of s d.hub d.port)
+  pub text : HubText
+  pub there : slice_get s.hubs (hub_of s d.hub) ≡ Some text
+  pub less : place_of s d.hub d.port < translators_of text
 
 none_hub : (h : HubContent) → ◌≡◌ {A = Option HubContent} None (Some h) → ⊥
 none_hub h e = cc

@@ -135,7 +135,7 @@ module _ (s : Standing) (w : World) (mixed : IsMixedAt s w) (n : ℕ) (is_in : I
   asks_its_way e u here is_met ways.Ctl is =
       (other_number (32 * u.queue) n (λ same. control_in (sym is ∙ its_way e u here is_met same)), refl, refl, refl)
 
-  by_way : AreByWay (queued w.driver) none none single no_outs s.ends
+  pub by_way : AreByWay (queued w.driver) none none single no_outs s.ends
   by_way = record {
     each = λ e u here is_met. asks_its_way e u here is_met u.desc.name.way refl;
     head = (
