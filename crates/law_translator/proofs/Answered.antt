@@ -2,12 +2,12 @@
 use Rattle.std.proofs.Common.{◌≡◌, ℕ, ◌+◌, ◌≤◌, List, [], ◌∷◌}
 use Rattle.tt_pipeline.specs.Work.{called_for}
 use Rattle.law_translator.specs.Plans.{Fits}
-use Rattle.claims_translators.specs.Plans.{Plan}
+use Rattle.claims_world.specs.Plans.{Plan}
 use Rattle.law_translator.specs.Frames.{Event, run, opening}
-use Rattle.claims_translators.specs.Watched.{Watched}
+use Rattle.claims_world.specs.Watched.{Watched}
 use Rattle.law_translator.specs.Premises.{FairAll}
-use Rattle.claims_translators.specs.KeepsUp.{KeepsUp}
-use Rattle.claims_translators.specs.Answered.{end_of, IsAnswered, AllAnswered}
+use Rattle.claims_world.specs.KeepsUp.{KeepsUp}
+use Rattle.claims_world.specs.Answered.{end_of, IsAnswered, AllAnswered}
 use Rattle.law_translator.proofs.Keeps.{owed_kept, keeps_all, opening_holds}
 use Rattle.law_translator.proofs.KeepsStuffed.{stuffed_keeps_all, stuffed_opening}
 use Rattle.law_translator.proofs.Owing.{Coming, Owing}

@@ -6,8 +6,8 @@ use Rattle.usb_base.specs.declared.packets.Ask.{Ask}
 use Rattle.hub_keys.specs.declared.key.Key.{Key}
 use Rattle.tt_pipeline.specs.declared.entry.Brought.{Brought}
 use Rattle.tt_pipeline.specs.Work.{called, called_unstuffed}
-use Rattle.claims_translators.specs.Plans.{Plan, laid}
-use Rattle.claims_translators.specs.Watched.{Watched, gap_between}
+use Rattle.claims_world.specs.Plans.{Plan, laid}
+use Rattle.claims_world.specs.Watched.{Watched, gap_between}
 use Rattle.law_translator.proofs.Owing.{Came, unseen, partial, ended, Grew, same, more, called_partial, not_both}
 use Rattle.law_translator.proofs.Sums.{due_at}
 

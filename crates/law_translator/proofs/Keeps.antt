@@ -10,11 +10,11 @@ use Rattle.tt_pipeline.specs.declared.rows.StartRow.TheVariants.{Enters, Joins, 
 use Rattle.tt_pipeline.specs.Starting.{start_row, without_first}
 use Rattle.tt_pipeline.specs.Work.{called, called_unstuffed, called_for, fresh}
 use Rattle.law_translator.specs.Plans.{Fits}
-use Rattle.claims_translators.specs.Plans.{Plan, laid}
+use Rattle.claims_world.specs.Plans.{Plan, laid}
 use Rattle.law_translator.specs.Frames.{Event, Start, Complete, Work, Drop, Replan, Clear, Frame, entries_of, is_of, begun, next, run, opening}
-use Rattle.claims_translators.specs.Watched.{Watched}
+use Rattle.claims_world.specs.Watched.{Watched}
 use Rattle.law_translator.specs.Premises.{FollowsRow, Fair, FairAll}
-use Rattle.claims_translators.specs.KeepsUp.{KeepsUp, AllKeepUp}
+use Rattle.claims_world.specs.KeepsUp.{KeepsUp, AllKeepUp}
 use Rattle.law_translator.proofs.Keys.{distinct_snoc, all_in_snoc}
 use Rattle.law_translator.proofs.Sums.{due_fits, sorted_snoc}
 use Rattle.law_translator.proofs.Owing.{Came, unseen, partial, ended, Owing, called_ended, unstuffed_same, no_stuff, not_both}

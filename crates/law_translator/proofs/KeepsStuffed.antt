@@ -17,11 +17,11 @@ use Rattle.tt_pipeline.specs.Starting.{start_row, with_first, without_first}
 use Rattle.tt_pipeline.specs.Work.{called, called_unstuffed, fresh, joined}
 use Rattle.tt_pipeline.specs.Working.{used_at, first_reply, later_replies}
 use Rattle.law_translator.specs.Plans.{Fits}
-use Rattle.claims_translators.specs.Plans.{Plan, laid}
+use Rattle.claims_world.specs.Plans.{Plan, laid}
 use Rattle.law_translator.specs.Frames.{Event, Start, Complete, Work, Drop, Replan, Clear, Frame, entries_of, is_of, changed, begun, worked_all, next, run, opening}
-use Rattle.claims_translators.specs.Watched.{Watched}
+use Rattle.claims_world.specs.Watched.{Watched}
 use Rattle.law_translator.specs.Premises.{FollowsRow, Fair, FairAll, AllLaidAs}
-use Rattle.claims_translators.specs.KeepsUp.{KeepsUpStuffed, AllKeepUpStuffed}
+use Rattle.claims_world.specs.KeepsUp.{KeepsUpStuffed, AllKeepUpStuffed}
 use Rattle.law_translator.proofs.Fronts.{weight, excess, weight_of, excess_of, Fronts}
 use Rattle.law_translator.proofs.Keys.{Distinct, AllIn, same_key, distinct_snoc, all_in_snoc}
 use Rattle.law_translator.proofs.Owing.{Came, unseen, partial, ended, Coming}

@@ -16,3 +16,4 @@ pub mod Watching
 pub mod Works
 pub mod Stays
 pub mod Common
+pub mod lemmas

@@ -8,8 +8,8 @@ use Rattle.hub_keys.specs.Asks.{work_of, stuffed}
 use Rattle.hub_keys.specs.declared.key.Key.{Key}
 use Rattle.tt_pipeline.specs.declared.entry.Brought.{Brought}
 use Rattle.tt_pipeline.specs.Work.{nothing_brought, called, called_unstuffed, is_due}
-use Rattle.claims_translators.specs.Plans.{Plan, laid}
-use Rattle.claims_translators.specs.Watched.{Watched, gap_between, gap_of}
+use Rattle.claims_world.specs.Plans.{Plan, laid}
+use Rattle.claims_world.specs.Watched.{Watched, gap_between, gap_of}
 use Rattle.law_translator.proofs.Numbers.{Ready, Done, ready_even, even_more, even_same}
 
 -- what had come before microframe u, with g microframes without a part

@@ -4,10 +4,10 @@ use Rattle.usb_base.specs.declared.packets.Ask.{Ask}
 use Rattle.hub_keys.specs.declared.key.Key.{Key}
 use Rattle.tt_pipeline.specs.declared.entry.Brought.{Brought}
 use Rattle.law_translator.specs.Plans.{Fits}
-use Rattle.claims_translators.specs.Plans.{Plan}
+use Rattle.claims_world.specs.Plans.{Plan}
 use Rattle.law_translator.specs.Premises.{IsLaidAs, AllLaidAs}
 use Rattle.law_translator.specs.Frames.{Frame}
-use Rattle.claims_translators.specs.Watched.{Watched}
+use Rattle.claims_world.specs.Watched.{Watched}
 use Rattle.law_translator.proofs.Keys.{AllIn}
 use Rattle.law_translator.proofs.Sums.{AllLater, Sorted}
 use Rattle.law_translator.proofs.Owing.{Came, unseen, partial, ended, Grew, same, more, Coming, Owing}

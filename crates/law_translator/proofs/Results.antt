@@ -19,9 +19,9 @@ use Rattle.tt_pipeline.specs.declared.entry.Exchange.TheVariants.{Ahead, Made}
 use Rattle.tt_pipeline.specs.declared.rows.AnswerRow.TheVariants.{Last, Result}
 use Rattle.tt_pipeline.specs.Answers.{bytes_row, made_row, row_at, answer_row}
 use Rattle.tt_pipeline.specs.Work.{called_unstuffed, called_for, unstuffed_done, is_ahead, is_ripe, is_iso_out}
-use Rattle.claims_translators.specs.Plans.{Plan}
-use Rattle.claims_translators.specs.Watched.{Watched}
-use Rattle.claims_translators.specs.Answered.{IsHeardIn}
+use Rattle.claims_world.specs.Plans.{Plan}
+use Rattle.claims_world.specs.Watched.{Watched}
+use Rattle.claims_world.specs.Answered.{IsHeardIn}
 use Rattle.law_translator.proofs.Owing.{Coming, called_ended}
 
 -- ---- an interrupt

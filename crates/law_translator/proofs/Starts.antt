@@ -27,9 +27,9 @@ use Rattle.tt_pipeline.specs.declared.rows.AnswerRow.TheVariants as Rows
 use Rattle.tt_pipeline.specs.Answers.{given, given_at, answer_row}
 use Rattle.tt_pipeline.specs.Starting.{has_key, with_first, without_first}
 use Rattle.tt_pipeline.specs.Work.{part_at, asked_part, nothing_brought, brought_by, one_more_part, fresh, joined, appended, called, unstuffed_done, is_ripe, is_ahead, is_iso_out}
-use Rattle.claims_translators.specs.Plans.{Plan}
+use Rattle.claims_world.specs.Plans.{Plan}
 use Rattle.law_translator.specs.Frames.{entries_of, is_of, changed}
-use Rattle.claims_translators.specs.Watched.{Watched, gap_between}
+use Rattle.claims_world.specs.Watched.{Watched, gap_between}
 use Rattle.law_translator.specs.Premises.{In, FirstPart, IsFirst, LaterPart, IsLater, LaterOf}
 use Rattle.law_translator.proofs.Keys.{Distinct, AllIn, same_key}
 use Rattle.law_translator.proofs.Sums.{AllLater, Sorted, AllBy}

@@ -15,9 +15,9 @@ use Rattle.tt_pipeline.specs.Answers.{answer_row, answer_of, result_at, row_at}
 use Rattle.tt_pipeline.specs.Work.{called, called_for, is_due, is_ahead, moved, answered}
 use Rattle.tt_pipeline.specs.Working.{used_at, first_reply, later_replies}
 use Rattle.law_translator.specs.Plans.{Fits}
-use Rattle.claims_translators.specs.Plans.{Plan}
+use Rattle.claims_world.specs.Plans.{Plan}
 use Rattle.law_translator.specs.Frames.{Event, worked_one, worked_all, run, opening}
-use Rattle.claims_translators.specs.Watched.{Watched}
+use Rattle.claims_world.specs.Watched.{Watched}
 use Rattle.law_translator.specs.Premises.{FairAll, Stays, AllStay}
 use Rattle.law_translator.proofs.Owing.{Grew, same, more, Coming, not_both}
 use Rattle.law_translator.proofs.Work.{All}

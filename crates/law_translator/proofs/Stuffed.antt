@@ -7,10 +7,10 @@ use Rattle.tt_pipeline.specs.declared.entry.Entry.{Entry}
 use Rattle.tt_pipeline.specs.Work.{called, called_unstuffed, called_for, is_due, moved, answered}
 use Rattle.tt_pipeline.specs.Working.{used_at, first_reply, later_replies}
 use Rattle.law_translator.specs.Plans.{Fits}
-use Rattle.claims_translators.specs.Plans.{Plan, laid}
+use Rattle.claims_world.specs.Plans.{Plan, laid}
 use Rattle.law_translator.specs.Premises.{In}
 use Rattle.law_translator.specs.Frames.{worked_one, worked_all}
-use Rattle.claims_translators.specs.Watched.{Watched}
+use Rattle.claims_world.specs.Watched.{Watched}
 use Rattle.law_translator.proofs.Fronts.{weight, weight_of, excess_of, Fronts, bits_grow, gain, paid, excess_grows, calls_stay, calls_begun}
 use Rattle.law_translator.proofs.Keys.{Distinct, AllIn}
 use Rattle.law_translator.proofs.Owing.{Coming, before_gaps, calls_more}

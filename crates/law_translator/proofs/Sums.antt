@@ -4,7 +4,7 @@ use Rattle.std.proofs.lemmas.Bool.{cases_lt}
 use Rattle.law_common.proofs.Numbers.{sum_up}
 use Rattle.hub_keys.specs.declared.key.Key.{Key}
 use Rattle.law_translator.specs.Plans.{laid_at, sum_at, Fits}
-use Rattle.claims_translators.specs.Plans.{Plan, laid}
+use Rattle.claims_world.specs.Plans.{Plan, laid}
 use Rattle.law_translator.specs.Premises.{In}
 use Rattle.law_translator.proofs.Keys.{Distinct, AllIn}
 

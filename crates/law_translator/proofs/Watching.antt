@@ -13,7 +13,7 @@ use Rattle.tt_pipeline.specs.Starting.{has_key, with_first, without_first, start
 use Rattle.tt_pipeline.specs.Work.{fresh, joined}
 use Rattle.tt_pipeline.specs.Working.{used_at, turned, turned_all, first_reply, later_replies}
 use Rattle.law_translator.specs.Frames.{Event, Start, Complete, Work, Frame, entries_of, is_of, changed, begun, worked_all, next, run, contents_after, run_contents}
-use Rattle.claims_translators.specs.Watched.{Watched}
+use Rattle.claims_world.specs.Watched.{Watched}
 
 with_entries : (k : Key) (f : Entry → Entry) (ws : List Watched) → entries_of (with_first (is_of k) (changed f) ws) ≡ with_first (has_key k) f (entries_of ws)
 with_entries k f [] = refl

@@ -8,9 +8,9 @@ use Rattle.tt_pipeline.specs.declared.entry.Entry.{Entry}
 use Rattle.tt_pipeline.specs.Work.{called, called_unstuffed, is_due, moved, answered}
 use Rattle.tt_pipeline.specs.Working.{used_at, first_reply, later_replies}
 use Rattle.law_translator.specs.Plans.{Fits}
-use Rattle.claims_translators.specs.Plans.{Plan, laid}
+use Rattle.claims_world.specs.Plans.{Plan, laid}
 use Rattle.law_translator.specs.Frames.{worked_one, worked_all}
-use Rattle.claims_translators.specs.Watched.{Watched}
+use Rattle.claims_world.specs.Watched.{Watched}
 use Rattle.law_translator.proofs.Keys.{Distinct, AllIn}
 use Rattle.law_translator.proofs.Sums.{due_at, total, later, Sorted}
 use Rattle.law_translator.proofs.Numbers.{Ready, Done, work_one, work_used}

@@ -14,8 +14,8 @@ use Rattle.tt_pipeline.specs.Answers.{completed, given}
 use Rattle.tt_pipeline.specs.Starting.{has_key, with_first, without_first, start_row, started}
 use Rattle.tt_pipeline.specs.Work.{fresh, joined}
 use Rattle.tt_pipeline.specs.Working.{budget, used_at, turned, turned_all, first_reply, later_replies}
-use Rattle.claims_translators.specs.Plans.{Plan}
-use Rattle.claims_translators.specs.Watched.{Watched, gap_of}
+use Rattle.claims_world.specs.Plans.{Plan}
+use Rattle.claims_world.specs.Watched.{Watched, gap_of}
 
 pub data Event : Type 0 where
   Start : (ask : Ask) (bytes : List ℕ) (stuff : ℕ) → Event  -- a start-split comes, of an endpoint with so many stuffed bits

@@ -12,10 +12,10 @@ use Rattle.tt_pipeline.specs.Working.{budget, Works, entries_after, wire_worked}
 use Rattle.tt_pipeline.specs.declared.entry.Entry.{Entry}
 use Rattle.law_translator.specs.Frames.{Event, worked_all, run, opening}
 use Rattle.law_translator.specs.Plans.{Fits}
-use Rattle.claims_translators.specs.Plans.{Plan}
+use Rattle.claims_world.specs.Plans.{Plan}
 use Rattle.law_translator.specs.Premises.{FairAll, AllStay}
-use Rattle.claims_translators.specs.KeepsUp.{AllKeepUp, AllKeepUpStuffed}
-use Rattle.claims_translators.specs.Answered.{AllAnswered}
+use Rattle.claims_world.specs.KeepsUp.{AllKeepUp, AllKeepUpStuffed}
+use Rattle.claims_world.specs.Answered.{AllAnswered}
 
 abbrev pub KeepsUpWithPlans : Type 0
 KeepsUpWithPlans = (plan : Plan) → Fits plan → (events : List Event) → FairAll 0 events (opening plan)

@@ -3,7 +3,7 @@
 --     Fits p                  in no microframe more than 188 are laid
 use Rattle.std.specs.Prelude.{ℕ, ◌+◌, ◌-◌, ◌≤◌, List, [], ◌∷◌}
 use Rattle.hub_keys.specs.declared.key.Key.{Key}
-use Rattle.claims_translators.specs.Plans.{Plan, laid}
+use Rattle.claims_world.specs.Plans.{Plan, laid}
 
 abbrev pub laid_at : Plan → Key → ℕ → ℕ
 laid_at p k u = laid p k (u + 1) - laid p k u

@@ -19,9 +19,9 @@ use Rattle.tt_pipeline.specs.Answers.{answer_row, answer_of}
 use Rattle.tt_pipeline.specs.Starting.{has_key, start_row}
 use Rattle.tt_pipeline.specs.Work.{asked_part}
 use Rattle.law_translator.specs.Plans.{Fits}
-use Rattle.claims_translators.specs.Plans.{Plan}
+use Rattle.claims_world.specs.Plans.{Plan}
 use Rattle.law_translator.specs.Frames.{Event, Start, Complete, Work, Drop, Replan, Clear, Frame, entries_of, next}
-use Rattle.claims_translators.specs.Watched.{Watched}
+use Rattle.claims_world.specs.Watched.{Watched}
 
 -- k is one of the keys
 abbrev pub In : Key → List Key → Type 0

@@ -11,7 +11,7 @@ use Rattle.tt_pipeline.specs.Work.{aged, fresh}
 use Rattle.tt_pipeline.specs.Answers.{complete_answer}
 use Rattle.tt_pipeline.specs.Worked.{interrupt_in, iso_in, iso_out}
 use Rattle.law_translator.specs.Frames.{Event, Start, Work, Replan, Frame, entries_of, run, opening}
-use Rattle.claims_translators.specs.Plans.{Plan}
+use Rattle.claims_world.specs.Plans.{Plan}
 
 -- three interrupts in microframe 0, of 77, 77 and 34 byte-times: 188 in all
 abbrev pub full_plan : Plan

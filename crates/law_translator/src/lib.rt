@@ -4,5 +4,6 @@
 //! code. They speak of the words of `tt_pipeline`; `bandwidth` makes the plans.
 #![tactic(auto)]
 
+pub mod hub_plans;
 pub mod laws;
 pub mod worked;

@@ -13,10 +13,10 @@ ghost use Rattle.tt_pipeline.specs.Worked.{interrupt_in, iso_in, iso_out};
 ghost use Rattle.tt_pipeline.specs.Working.{used_by};
 ghost use Rattle.law_translator.specs.Frames.{Replan, entries_of, run, opening};
 ghost use Rattle.law_translator.specs.Plans.{Fits};
-ghost use Rattle.claims_translators.specs.Plans.{laid};
+ghost use Rattle.claims_world.specs.Plans.{laid};
 ghost use Rattle.law_translator.specs.Premises.{Fair, FairAll};
-ghost use Rattle.claims_translators.specs.KeepsUp.{AllKeepUp};
-ghost use Rattle.claims_translators.specs.Answered.{end_of};
+ghost use Rattle.claims_world.specs.KeepsUp.{AllKeepUp};
+ghost use Rattle.claims_world.specs.Answered.{end_of};
 ghost use Rattle.law_translator.specs.Worked.{full_plan, full_starts, full_run, run_of, heard_from, heard_after, stuffed_run, more_plan, replanned_run, too_full, too_full_run, kept_over, in_plan, in_run, out_plan, out_run};
 
 /// Three interrupts that take all 188 byte-times of a microframe: the premises hold, and the answers are there at the

@@ -1,9 +1,9 @@
 use Rattle.std.proofs.Common.{refl, arith}
 use Rattle.bandwidth.specs.Placements.{first_in, mask, allowed, IsWant}
 use Rattle.bandwidth.specs.Worked.{camera, keyboard}
-use Rattle.law_hub_plans.specs.Laws.{IsPlacedRight}
-use Rattle.law_hub_plans.specs.Samples.{camera_in_1, keyboard_in_0}
-use Rattle.law_hub_plans.proofs.worked.a_camera_beside_a_keyboard.Goals as goal
+use Rattle.law_translator.specs.hub_plans.Laws.{IsPlacedRight}
+use Rattle.law_translator.specs.hub_plans.Samples.{camera_in_1, keyboard_in_0}
+use Rattle.law_translator.proofs.hub_plans.worked.a_camera_beside_a_keyboard.Goals as goal
 
 camera_wants : IsWant (camera 179)
 camera_wants = record {

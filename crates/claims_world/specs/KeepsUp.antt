@@ -6,8 +6,8 @@ use Rattle.usb_base.specs.declared.packets.EpKind.TheVariants.{Interrupt}
 use Rattle.tt_pipeline.specs.declared.rows.AnswerRow.TheVariants.{Result}
 use Rattle.tt_pipeline.specs.Answers.{answer_row}
 use Rattle.tt_pipeline.specs.Work.{called_for}
-use Rattle.claims_translators.specs.Plans.{Plan, laid}
-use Rattle.claims_translators.specs.Watched.{Watched}
+use Rattle.claims_world.specs.Plans.{Plan, laid}
+use Rattle.claims_world.specs.Watched.{Watched}
 
 -- at the begin of a microframe, after the work, an entry has had what is laid for it up to the last microframe but one, less
 -- 188 for each microframe that brought no part while it lacked its last, or all that its starts up to then call for

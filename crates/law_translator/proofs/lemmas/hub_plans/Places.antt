@@ -5,9 +5,9 @@ use Rattle.law_translator.proofs.Common.{same_key}
 use Rattle.hub_keys.specs.Keys.{is_same_key}
 use Rattle.hub_keys.specs.declared.key.Key.{Key}
 use Rattle.bandwidth.specs.declared.placements.Placed.{Placed}
-use Rattle.law_hub_plans.specs.HubPlans.{AreKeysApart}
-use Rattle.claims_translators.specs.HubPlans.{placed_as, first_of, times_of}
-use Rattle.law_hub_plans.specs.Laws.{IsKeptIn, PlacesAreKept}
+use Rattle.law_translator.specs.hub_plans.HubPlans.{AreKeysApart}
+use Rattle.claims_world.specs.HubPlans.{placed_as, first_of, times_of}
+use Rattle.law_translator.specs.hub_plans.Laws.{IsKeptIn, PlacesAreKept}
 
 module _ (key : Placed → Key) where
   abbrev pub IsFoundIn : List Placed → Placed → Type 0

@@ -18,7 +18,7 @@ use Rattle.hc_core.specs.declared.controller.ControllerRow.TheVariants as rows
 use Rattle.bus_wire.specs.Bus.{Fixed}
 use Rattle.bus_world.specs.World.{World, controller_row}
 use Rattle.claims_world.specs.Carried.{carried}
-use Rattle.claims_translators.specs.Watched.{Watched, gap_of}
+use Rattle.claims_world.specs.Watched.{Watched, gap_of}
 
 -- a part came, or the last
 abbrev pub is_seen : Brought → Bool

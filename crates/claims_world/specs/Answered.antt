@@ -13,8 +13,8 @@ use Rattle.tt_pipeline.specs.declared.entry.Entry.{Entry}
 use Rattle.tt_pipeline.specs.declared.entry.Exchange.TheVariants.{Made}
 use Rattle.tt_pipeline.specs.declared.rows.AnswerRow.TheVariants.{Last, Result}
 use Rattle.tt_pipeline.specs.Answers.{answer_row}
-use Rattle.claims_translators.specs.Watched.{Watched}
-use Rattle.claims_translators.specs.Plans.{Plan}
+use Rattle.claims_world.specs.Watched.{Watched}
+use Rattle.claims_world.specs.Plans.{Plan}
 
 -- 188 byte-times are laid in each microframe from its first on, and the rest in the last
 abbrev pub end_of : Plan → Key → ℕ

@@ -13,10 +13,10 @@ use Rattle.bandwidth.specs.Placements.{first_in}
 use Rattle.bandwidth.specs.Sums.{is_translator, is_active, laid_in}
 use Rattle.bandwidth.specs.Sums as budgets
 use Rattle.law_translator.specs.Plans.{laid_at, sum_at}
-use Rattle.claims_translators.specs.HubPlans.{is_below, placed_below, first_of, times_of, time_in, plan_by}
-use Rattle.law_hub_plans.specs.Laws.{IsPlacedRight, HubPlansFit}
-use Rattle.law_hub_plans.proofs.Places.{IsFoundIn, all_found}
-use Rattle.law_hub_plans.proofs.Options.{Ends, right_ends}
+use Rattle.claims_world.specs.HubPlans.{is_below, placed_below, first_of, times_of, time_in, plan_by}
+use Rattle.law_translator.specs.hub_plans.Laws.{IsPlacedRight, HubPlansFit}
+use Rattle.law_translator.proofs.lemmas.hub_plans.Places.{IsFoundIn, all_found}
+use Rattle.law_translator.proofs.lemmas.hub_plans.Options.{Ends, right_ends}
 
 -- what is laid in microframe u from its first on
 abbrev portion : ℕ → ℕ → ℕ → ℕ

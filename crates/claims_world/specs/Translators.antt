@@ -8,10 +8,10 @@ use Rattle.std.specs.Prelude.{ℕ}
 use Rattle.script_types.specs.declared.scripts.Script.{Script}
 use Rattle.bus_wire.specs.Bus.{fixed_of}
 use Rattle.bus_world.specs.Budgets.{moment}
-use Rattle.claims_translators.specs.Answered.{AllAnswered}
-use Rattle.claims_translators.specs.Gaps.{gaps}
-use Rattle.claims_translators.specs.KeepsUp.{AllKeepUp, AllKeepUpStuffed}
-use Rattle.claims_translators.specs.Pipelines.{EachPipeline, StuffsAtMost}
+use Rattle.claims_world.specs.Answered.{AllAnswered}
+use Rattle.claims_world.specs.Gaps.{gaps}
+use Rattle.claims_world.specs.KeepsUp.{AllKeepUp, AllKeepUpStuffed}
+use Rattle.claims_world.specs.Pipelines.{EachPipeline, StuffsAtMost}
 
 pub record KeepsTranslators (s : Script) : Type 0 where
   -- where no endpoint has stuffed bits

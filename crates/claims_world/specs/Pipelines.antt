@@ -9,10 +9,10 @@ use Rattle.hub_class.specs.HubContent.{HubContent}
 use Rattle.bus_wire.specs.declared.seats.Seat.{Seat}
 use Rattle.bus_wire.specs.Bus.{Fixed, stuff_of}
 use Rattle.bus_world.specs.World.{World}
-use Rattle.claims_translators.specs.Gaps.{watched_of}
-use Rattle.claims_translators.specs.HubPlans.{plans_now}
-use Rattle.claims_translators.specs.Plans.{Plan}
-use Rattle.claims_translators.specs.Watched.{Watched}
+use Rattle.claims_world.specs.Gaps.{watched_of}
+use Rattle.claims_world.specs.HubPlans.{plans_now}
+use Rattle.claims_world.specs.Plans.{Plan}
+use Rattle.claims_world.specs.Watched.{Watched}
 
 -- the number by which plans name the translator at a place: 0 where it serves all ports
 abbrev pub port_at : Bool → ℕ → ℕ

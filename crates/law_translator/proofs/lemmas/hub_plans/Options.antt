@@ -1,14 +1,14 @@
 -- What is placed as it may be ends within its frame.
 use Rattle.std.proofs.Common.{◌≡◌, ℕ, zero, suc, ◌+◌, ◌<◌, ◌≤◌, map, arith}
 use Rattle.std.specs.List.{AllByRecursion, flat_map, range_with_len}
-use Rattle.law_hub_plans.proofs.Common.{all_joined, one_of}
+use Rattle.law_translator.proofs.lemmas.hub_plans.Common.{all_joined, one_of}
 use Rattle.bandwidth.specs.declared.placements.Placed.{Placed}
 use Rattle.bandwidth.specs.declared.placements.Placement.{Placement}
 use Rattle.bandwidth.specs.declared.placements.Want.{Want}
 use Rattle.bandwidth.specs.Placements.{IsWant, first_in, placement_row, placement_at, frame_period, in_phase, allowed}
 use Rattle.bandwidth.specs.Shapes.{laid_cells}
 use Rattle.bandwidth.proofs.Spans.{span_of, laid_end}
-use Rattle.law_hub_plans.specs.Laws.{IsPlacedRight}
+use Rattle.law_translator.specs.hub_plans.Laws.{IsPlacedRight}
 
 abbrev pub Ends : Want → Placement → Type 0
 Ends w p = first_in p.smask + laid_cells w ≤ 8

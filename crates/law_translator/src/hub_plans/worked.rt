@@ -3,10 +3,10 @@ ghost use Rattle.std.specs.Prelude.{◌≡◌, [], ◌∷◌};
 ghost use Rattle.std.specs.List.{AllByRecursion};
 ghost use Rattle.bandwidth.specs.Worked.{camera, keyboard};
 ghost use Rattle.law_translator.specs.Plans.{laid_at, sum_at};
-ghost use Rattle.law_hub_plans.specs.HubPlans.{AreKeysApart};
-ghost use Rattle.claims_translators.specs.HubPlans.{placed_below, hub_plan};
-ghost use Rattle.law_hub_plans.specs.Laws.{IsPlacedRight};
-ghost use Rattle.law_hub_plans.specs.Samples.{key_in, sample_key, camera_in_1, keyboard_in_0, a_plan, too_much};
+ghost use Rattle.law_translator.specs.hub_plans.HubPlans.{AreKeysApart};
+ghost use Rattle.claims_world.specs.HubPlans.{placed_below, hub_plan};
+ghost use Rattle.law_translator.specs.hub_plans.Laws.{IsPlacedRight};
+ghost use Rattle.law_translator.specs.hub_plans.Samples.{key_in, sample_key, camera_in_1, keyboard_in_0, a_plan, too_much};
 
 /// The keyboard has 77 byte-times in microframe 0, and the camera 188 in microframe 1: each below 188. In another frame the same,
 /// and another translator has no plan.

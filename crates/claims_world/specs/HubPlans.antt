@@ -17,7 +17,7 @@ use Rattle.bandwidth.specs.Sums.{is_translator, is_active}
 use Rattle.drv_table.specs.declared.content.Endpoint.{Endpoint}
 use Rattle.drv_table.specs.DriverContent.{DriverContent}
 use Rattle.claims_world.specs.Visits.{frame_in}
-use Rattle.claims_translators.specs.Plans.{Plan}
+use Rattle.claims_world.specs.Plans.{Plan}
 
 abbrev pub is_below : ℕ → ℕ → ℕ → Placed → Bool
 is_below hub port f y = is_translator y.want hub port && is_active y.placement f

@@ -10,9 +10,9 @@ use Rattle.bandwidth.specs.declared.placements.Placed.{Placed}
 use Rattle.bandwidth.specs.Placements.{IsWant, first_in, allowed}
 use Rattle.bandwidth.specs.Sums as budgets
 use Rattle.law_translator.specs.Plans.{Fits}
-use Rattle.claims_translators.specs.Plans.{Plan}
-use Rattle.law_hub_plans.specs.HubPlans.{AreKeysApart}
-use Rattle.claims_translators.specs.HubPlans.{placed_below, plan_by, hub_plan, time_in}
+use Rattle.claims_world.specs.Plans.{Plan}
+use Rattle.law_translator.specs.hub_plans.HubPlans.{AreKeysApart}
+use Rattle.claims_world.specs.HubPlans.{placed_below, plan_by, hub_plan, time_in}
 
 pub record IsPlacedRight (y : Placed) : Type 0 where
   pub want : IsWant y.want
