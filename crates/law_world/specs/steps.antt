@@ -11,7 +11,6 @@ pub mod Events
 pub mod Takers
 pub mod RowSamples
 pub mod worlds_in_place
-pub mod world_bytes
 pub mod world_out_streams
 pub mod unlinked_streams
 pub mod closed_streams

@@ -12,7 +12,6 @@ pub mod FeedingLaws
 pub mod OpenFeeds
 pub mod LendFeeds
 pub mod HarvestFeeds
-pub mod Linked
 pub mod FeedingSamples
 pub mod Tails
 pub mod Cancelling
@@ -27,7 +26,6 @@ pub mod LeftLaws
 pub mod TakingLaws
 pub mod Whole
 pub mod Laws
-pub mod Harvested
 pub mod Moments
 pub mod sending_worlds
 pub mod Asynchronous

@@ -33,7 +33,6 @@ pub mod control_queues;
 pub mod controlled_walks;
 pub mod endpoint_releases;
 pub mod left_queues;
-pub mod receiving_runs;
 pub mod row_laws;
 pub mod row_worked;
 mod stream_laws;

@@ -34,8 +34,6 @@
 //! The module has no code of its own: each function is a law, and its body is empty.
 
 pub mod commands;
-pub mod drivers;
-pub mod events;
 pub mod feeding_laws;
 pub mod feeding_worked;
 pub mod harvests;
@@ -56,7 +54,6 @@ pub mod put_laws;
 pub mod releases;
 pub mod right_reports;
 pub mod right_worlds;
-pub mod runs;
 pub mod sending_worlds;
 pub mod shared_worlds;
 pub mod stores;

@@ -6,6 +6,4 @@
 //! The module has no code of its own: each function is a law over the definitions of `streams` and `small_receiver`, and its body is empty.
 
 pub mod cancels;
-pub mod requests;
 pub mod small_receiver;
-pub mod worked;

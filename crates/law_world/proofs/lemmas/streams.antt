@@ -41,7 +41,6 @@ pub mod TakingOpens
 pub mod TakingReturns
 pub mod TakingHeads
 pub mod KeptLeft
-pub mod Opening
 pub mod Still
 pub mod Asked
 pub mod Commanding
@@ -60,12 +59,10 @@ pub mod Mending
 pub mod Releasing
 pub mod Returning
 pub mod Telling
-pub mod Driving
 pub mod Rows
 pub mod Naming
 pub mod Fewer
 pub mod Moments
-pub mod Running
 pub mod Sampling
 pub mod LeavingCancelled
 pub mod LeavingUnlinked

@@ -1,7 +1,2 @@
-pub mod Sampling
-pub mod Putting
-pub mod Cancelling
-pub mod Requesting
-pub mod Due
 pub mod lemmas
 pub mod CancelLetGo

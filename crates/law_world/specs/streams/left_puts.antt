@@ -1,4 +1,3 @@
 pub mod Leaving
-pub mod Unlinked
 pub mod Released
 pub mod Samples

@@ -5,10 +5,6 @@ pub mod Rings
 pub mod HeldLaws
 pub mod HeldSamples
 pub mod Sent
-pub mod SentEvents
-pub mod SentStores
-pub mod SentLends
-pub mod SentOpens
 pub mod SentRows
 pub mod SentRead
 pub mod SentSamples

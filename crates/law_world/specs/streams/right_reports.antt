@@ -1,3 +1,2 @@
-pub mod Ins
 pub mod Laws
 pub mod Samples

@@ -4,5 +4,3 @@ pub mod ReportLaws
 pub mod ReportSamples
 pub mod Sending
 pub mod WorldLaws
-pub mod Moments
-pub mod Kept

@@ -1,6 +1,6 @@
 //! Worlds at work of bulk and control endpoints (EHCI 1.0, 3.5, 4.6, 4.8 and 4.10; USB 2.0, 5.5, 5.8 and 8.6): each queue is fed as the driver's content tells,
 //! and the bytes of a bulk endpoint's qTDs add up.
-ghost use Rattle.law_world.specs.streams.FeedingLaws.{NewWorldFeeds, ControllerFeeds, CommandFeeds, StillFeeds, StoreFeeds};
+ghost use Rattle.law_world.specs.streams.FeedingLaws.{NewWorldFeeds, CommandFeeds, StillFeeds, StoreFeeds};
 ghost use Rattle.law_world.specs.streams.OpenFeeds.{LinkFeeds};
 ghost use Rattle.law_world.specs.streams.LendFeeds.{LendFeeds};
 ghost use Rattle.law_world.specs.streams.HarvestFeeds.{PassedAreUntold, HarvestFeeds};
@@ -8,11 +8,6 @@ ghost use Rattle.law_world.specs.streams.HarvestFeeds.{PassedAreUntold, HarvestF
 /// The world of every script begins so.
 pub fn new_world_feeds()
     ensures { NewWorldFeeds }
-{}
-
-/// Each event of the controller leaves it so, with at most one packet more of one stream.
-pub fn controller_feeds()
-    ensures { ControllerFeeds }
 {}
 
 /// And so does each command, accepted or refused.

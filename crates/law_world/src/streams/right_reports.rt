@@ -6,5 +6,5 @@
 mod laws;
 mod worked;
 
-pub use laws::{ins_are_all, report_is_printed, report_is_right};
+pub use laws::{report_is_printed, report_is_right};
 pub use worked::{an_in_and_an_out, before_the_first_line, closing_lines};

@@ -12,6 +12,5 @@
 
 pub mod leave_laws;
 pub mod leave_worked;
-pub mod report_laws;
 pub mod report_worked;
 pub mod world_laws;

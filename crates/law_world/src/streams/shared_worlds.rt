@@ -6,6 +6,5 @@
 mod laws;
 
 pub use laws::{
-    a_new_world_is_working, a_run_stays_working, quiet_events_keep_it_working,
-    refused_commands_keep_it_working, the_controller_keeps_it_working,
+    a_new_world_is_working, quiet_events_keep_it_working, the_controller_keeps_it_working,
 };

@@ -1,26 +1,17 @@
 //! Worked rows, which the check computes.
-ghost use Rattle.std.specs.Prelude.{◌≡◌, [], Some, true, false, ◌∷◌};
+ghost use Rattle.std.specs.Prelude.{[], ◌≡◌, Some, true, false, ◌∷◌};
 ghost use Rattle.law_queues.specs.standing_fronts.Tails.{tail_block};
 ghost use Rattle.usb_base.specs.declared.reports.What.TheVariants as lines;
 ghost use Rattle.drv_table.specs.declared.rows.DriverRow.TheVariants as rows;
 ghost use Rattle.drv_table.specs.declared.rows.Found.TheVariants as founds;
-ghost use Rattle.drv_table.specs.Harvests.{note_at};
-ghost use Rattle.drv_table.specs.Rows.{after_driver_row};
 ghost use Rattle.drv_table.specs.Leaving.{leaving_row};
-ghost use Rattle.law_world.specs.streams.Harvested.{at_harvest};
 ghost use Rattle.op_registers.specs.RegisterFile.{RegisterFile};
 ghost use Rattle.law_driver_ring.specs.Released.{goes_of};
 ghost use Rattle.claims_driver.specs.Leaving.{owes};
 ghost use Rattle.law_driver.specs.run_owners.Worked.{busy_driver, get_out};
 ghost use Rattle.law_devices.specs.opening_senders.Own.{HasOwnDevices};
-ghost use Rattle.law_world.specs.streams.Moments.{IsAsynchronousScript, IsWholeThroughout};
-ghost use Rattle.law_world.specs.streams.Asynchronous.{InStreamsAreRightThroughout};
+ghost use Rattle.law_world.specs.streams.Moments.{IsAsynchronousScript};
 ghost use Rattle.law_world.specs.streams.FeedingSamples.{one_get};
-
-/// The get ends with 3 bytes: they are noted of its qTD.
-pub fn a_get_ends()
-    ensures { (note_at (after_driver_row (rows.Harvest 0 0 (founds.Ended 3 lines.Done)) at_harvest).driver.notes 132).moved ≡ 3 }
-{}
 
 /// A get with its qTD in block 132 and its buffer in block 134 is reported, and given back: both go, and the tail in block 133 stays.
 pub fn a_get_is_given_back()
@@ -36,10 +27,4 @@ pub fn a_get_is_given_back()
 pub fn a_script_with_one_get()
     ensures asynchronous { IsAsynchronousScript one_get }
     ensures own { HasOwnDevices one_get }
-{}
-
-/// So its world is whole at each moment, and the streams of its report are right.
-pub fn its_streams_are_right()
-    ensures whole { IsWholeThroughout one_get }
-    ensures right { InStreamsAreRightThroughout one_get }
 {}

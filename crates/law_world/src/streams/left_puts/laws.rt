@@ -2,7 +2,6 @@
 ghost use Rattle.std.specs.Prelude.{ℕ, Option};
 ghost use Rattle.law_ring.specs.OutBus.{Taker};
 ghost use Rattle.law_world.specs.streams.left_puts.Leaving.{LeaveHoldsPuts, LeaveOwes, LeaveSends, LeaveStops, LeaveKeepsTaken, KeptStayStopped};
-ghost use Rattle.law_world.specs.streams.left_puts.Unlinked.{UnlinkSends, UnlinkStops};
 ghost use Rattle.law_world.specs.streams.left_puts.Released.{EndpointReleaseHoldsPuts, EndpointReleaseOwes, EndpointReleaseSends, EndpointReleaseStops, EndpointReleaseKeepsTaken};
 
 use usb_base::Wire;
@@ -31,12 +30,6 @@ pub fn a_leave_keeps_the_ended_halted()
 /// What the device of an OUT endpoint took begins its puts.
 pub fn a_leave_keeps_what_was_taken<W: Wire>()
     ensures { (taker : W → ℕ → ℕ → Option Taker) → LeaveKeepsTaken taker }
-{}
-
-/// With the store that unlinks an endpoint what is out is sent whole and in turn, and queue heads stay halted: it writes only a link.
-pub fn an_unlink_leaves_the_queues()
-    ensures sent { UnlinkSends }
-    ensures ended { UnlinkStops }
 {}
 
 /// Where an endpoint that has left is given back, the buffers of the puts to the others hold their bytes.

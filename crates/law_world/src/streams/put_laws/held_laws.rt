@@ -1,6 +1,6 @@
 //! The laws.
 ghost use Rattle.law_world.specs.streams.put_laws.Rings.{WalkLeavesBuffers, EventLeavesBuffers, OutsAskNone};
-ghost use Rattle.law_world.specs.streams.put_laws.HeldLaws.{NewDriverHoldsPuts, EventHoldsPuts, OpenHoldsPuts, GetHoldsPuts, PutHoldsPuts, CommandHoldsPuts, DriverHoldsPuts, HarvestReadsPuts, ReportIsOfPuts, NewDriverMovesFew, CommandMovesFew, DriverMovesFew};
+ghost use Rattle.law_world.specs.streams.put_laws.HeldLaws.{NewDriverHoldsPuts, EventHoldsPuts, OpenHoldsPuts, GetHoldsPuts, PutHoldsPuts, CommandHoldsPuts, DriverHoldsPuts};
 
 use usb_base::Wire;
 
@@ -32,17 +32,4 @@ pub fn an_accepted_put_holds_its_bytes()
 /// Each event of the driver leaves them: its lends, its stores, its harvests, and where it gives the blocks of another transfer back.
 pub fn driver_holds_puts()
     ensures { DriverHoldsPuts }
-{}
-
-/// Of a qTD of a put a harvest reads the first bytes that the put asked it to send, and so the report tells the first ones of each qTD.
-pub fn what_is_reported_of_a_put_was_asked()
-    ensures read { HarvestReadsPuts }
-    ensures report { ReportIsOfPuts }
-{}
-
-/// At each moment no more is noted as moved of a qTD than it asked for.
-pub fn no_more_is_moved_than_asked()
-    ensures opening { NewDriverMovesFew }
-    ensures command { CommandMovesFew }
-    ensures driver { DriverMovesFew }
 {}

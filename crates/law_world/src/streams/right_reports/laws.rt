@@ -1,5 +1,4 @@
 ghost use Rattle.law_world.specs.streams.right_reports.Laws.{ReportIsPrinted, ReportIsRight};
-ghost use Rattle.law_world.specs.streams.right_reports.Ins.{InsAreAll};
 
 /// The report of a world as a value is what is printed of it.
 pub fn report_is_printed()
@@ -9,9 +8,4 @@ pub fn report_is_printed()
 /// Where its lines, and what is held back behind them, begin the packets of each IN endpoint, its IN streams are right.
 pub fn report_is_right()
     ensures { ReportIsRight }
-{}
-
-/// Of a script that only receives, the IN streams are all.
-pub fn ins_are_all()
-    ensures { InsAreAll }
 {}

@@ -1,19 +1,14 @@
-ghost use Rattle.std.specs.Prelude.{◌≡◌, ℕ, Bool, true, List, Err};
-ghost use Rattle.usb_base.specs.declared.commands.Cmd.{Cmd};
-ghost use Rattle.usb_base.specs.declared.reports.OfferError.{OfferError};
-ghost use Rattle.script_types.specs.declared.scripts.Event.{Event};
+ghost use Rattle.std.specs.Prelude.{◌≡◌, ℕ, Bool, true};
 ghost use Rattle.script_types.specs.declared.scripts.Script.{Script};
 ghost use Rattle.script_fits.specs.Fits.{IsFit};
 ghost use Rattle.bus_wire.specs.Bus.{Fixed, fixed_of};
-ghost use Rattle.drv_table.specs.Offers.{offered};
 ghost use Rattle.drv_table.specs.Rows.{driver_row};
 ghost use Rattle.claims_base.specs.Controller.{Base, opening_base};
 ghost use Rattle.law_driver_ring.specs.Driven.{is_quiet};
 ghost use Rattle.law_driver_ring.specs.PartOpened.{is_head};
-ghost use Rattle.bus_world.specs.World.{World, driver_parts, driver_next, controller_next, commanded};
+ghost use Rattle.bus_world.specs.World.{World, driver_parts, driver_next, controller_next};
 ghost use Rattle.bus_world.specs.Opening.{opening_world};
 ghost use Rattle.law_world.specs.steps.Streaming.{Streams, Standing, HearsBytesNow};
-ghost use Rattle.law_world.specs.streams.shared_worlds.Run.{AreCovered, after};
 ghost use Rattle.law_world.specs.streams.shared_worlds.Working.{IsWorking, StaysWorking, no_streams, at_opening};
 
 /// The world of every script begins so.
@@ -31,16 +26,4 @@ pub fn the_controller_keeps_it_working()
 pub fn quiet_events_keep_it_working()
     ensures { (fixed : Fixed) (base : Base) (member : ℕ → Bool) (x : Streams) (s : Standing) (w : World) → IsWorking fixed base member x s w
         → is_quiet (driver_row (driver_parts w)) ≡ true → IsWorking fixed base member x s (driver_next w) }
-{}
-
-/// A command that is refused, which becomes a line of the report, keeps it too.
-pub fn refused_commands_keep_it_working()
-    ensures { (fixed : Fixed) (base : Base) (member : ℕ → Bool) (x : Streams) (s : Standing) (w : World) (line : ℕ) (cmd : Cmd) (why : OfferError)
-        → IsWorking fixed base member x s w → offered w.driver w.memory cmd ≡ Err why → IsWorking fixed base member x s (commanded w line cmd) }
-{}
-
-/// So a world is at work after any run of events of the controller and of such events of the driver.
-pub fn a_run_stays_working()
-    ensures { (fixed : Fixed) (base : Base) (member : ℕ → Bool) (x : Streams) (s : Standing) (w : World) (events : List Event) → AreCovered fixed w events
-        → IsWorking fixed base member x s w → StaysWorking fixed base member x s (after fixed w events) }
 {}

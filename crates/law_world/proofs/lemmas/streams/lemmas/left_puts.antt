@@ -1,5 +1,4 @@
 pub mod Leaving
-pub mod Unlinked
 pub mod Others
 pub mod Released
 pub mod Sampled

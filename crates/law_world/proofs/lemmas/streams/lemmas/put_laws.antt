@@ -12,15 +12,8 @@ pub mod Commanding
 pub mod Harvested
 pub mod Released
 pub mod Rows
-pub mod HeldReading
-pub mod Moving
 pub mod HeldSampled
-pub mod Events
 pub mod SentAlike
-pub mod Storing
-pub mod Lending
-pub mod OpenLending
-pub mod OpenLinking
 pub mod SentReading
 pub mod SentSampling
 pub mod Mapped
