@@ -54,15 +54,15 @@ answered_rules w n name cmd (Err why) is = refl
 
 -- ---- what is left of the orders
 
-abbrev needs_left : Left → Reserve
+abbrev pub needs_left : Left → Reserve
 needs_left (Command n cmd) = needs cmd
 needs_left _ = no_room
 
-reserve_left : List Left → Reserve
+unfoldable pub reserve_left : List Left → Reserve
 reserve_left [] = no_room
 reserve_left (x ∷ xs) = with_room (needs_left x) (reserve_left xs)
 
-abbrev FitsLeft : Left → Type 0
+abbrev pub FitsLeft : Left → Type 0
 FitsLeft (Events event n) = Unit {0}
 FitsLeft (Microframes n) = Unit {0}
 FitsLeft (Answer ended n) = Unit {0}
@@ -147,7 +147,7 @@ line_needs : (l : Line) (n : ℕ) → needs_left (left_of l n) ≡ needs_line l
 line_needs (lines.Order event count) n = refl
 line_needs _ n = refl
 
-lines_need : (xs : List (ℕ × Line)) → reserve_left (orders_of xs) ≡ reserve_of xs
+pub lines_need : (xs : List (ℕ × Line)) → reserve_left (orders_of xs) ≡ reserve_of xs
 unfolding reserve_left
 lines_need [] = refl
 lines_need (x ∷ xs) =
@@ -158,7 +158,7 @@ line_fits : (l : Line) (n : ℕ) → IsFitLine l → FitsLeft (left_of l n)
 line_fits (lines.Command cmd) n h = h
 line_fits _ n h = tt
 
-lines_fit : (xs : List (ℕ × Line)) → AllByRecursion (λ x. IsFitLine x.1) xs → AllByRecursion FitsLeft (orders_of xs)
+pub lines_fit : (xs : List (ℕ × Line)) → AllByRecursion (λ x. IsFitLine x.1) xs → AllByRecursion FitsLeft (orders_of xs)
 lines_fit [] h = tt
 lines_fit (x ∷ xs) h = (line_fits x.1 x.0 h.0, lines_fit xs h.1)
 

@@ -9,3 +9,8 @@ pub mod Sounds
 pub mod Ways
 pub mod Budgeted
 pub mod Printing
+pub mod PlainRuns
+pub mod RoomsAtWork
+pub mod KeptAtWork
+pub mod OffersAtWork
+pub mod BudgetedAtWork

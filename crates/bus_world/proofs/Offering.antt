@@ -1,5 +1,6 @@
--- An offer writes no line of the report.
-use Rattle.std.proofs.Common.{◌≡◌, ℕ, ◌+◌, ◌-◌, Bool, List, [], ◌∷◌, ◌++◌, length, slice_get, Option, Some, None, Result, Ok, Err, refl}
+-- An offer writes no line of the report, and makes no more room for lines.
+use Rattle.std.proofs.Common.{◌≡◌, ℕ, ◌+◌, ◌-◌, ◌≤◌, Bool, List, [], ◌∷◌, ◌++◌, length, slice_get, Option, Some, None}
+use Rattle.std.proofs.Common.{Result, Ok, Err, refl, arith}
 use Rattle.std.specs.Prelude.{nat_lt, unwrap_or, is_none, count_by, ◌||◌, not}
 use Rattle.std.proofs.lemmas.Bool.{cond_both}
 use Rattle.usb_base.specs.declared.commands.Cmd.{Cmd}
@@ -44,6 +45,7 @@ request_asked setup bytes = record { sort = sorts.Request; stages = request_stag
 pub record SameLines (d e : DriverContent) : Type 0 where
   pub reports : e.reports ≡ d.reports
   pub store : e.store ≡ d.store
+  pub fewer : e.room.reports ≤ d.room.reports
 
 abbrev pub Lines : DriverContent → Result Offered OfferError → Type 0
 Lines d (Ok o) = SameLines d o.driver
@@ -55,14 +57,14 @@ ended_lines d None = tt
 
 taken_open_lines : (d : DriverContent) (x : EpDesc) (h : Result Holding OfferError) → Lines d (taken_open d x h)
 taken_open_lines d x (Err why) = tt
-taken_open_lines d x (Ok h) = record { reports = refl; store = refl }
+taken_open_lines d x (Ok h) = record { reports = refl; store = refl; fewer = omega arith }
 
 taken_chain_lines : (d : DriverContent) (x : EpDesc) (p : Placement) (h : Result Holding OfferError) → Lines d (taken_chain d x p h)
 taken_chain_lines d x p (Err why) = tt
-taken_chain_lines d x p (Ok h) = record { reports = refl; store = refl }
+taken_chain_lines d x p (Ok h) = record { reports = refl; store = refl; fewer = omega arith }
 
 placed_open_lines : (d : DriverContent) (m : Mem) (x : EpDesc) (p : Placement) (kind : EpKind) → Lines d (placed_open d m x p kind)
-placed_open_lines d m x p kinds.Iso = record { reports = refl; store = refl }
+placed_open_lines d m x p kinds.Iso = record { reports = refl; store = refl; fewer = omega arith }
 placed_open_lines d m x p _ = taken_chain_lines d x p (take_runs (holding d.book m) (2 ∷ 1 ∷ []))
 
 planned_open_lines : (d : DriverContent) (m : Mem) (x : EpDesc) (p : Result Placement Refused) → Lines d (planned_open d m x p)
@@ -81,7 +83,7 @@ open_lines d m x None = new_open_lines d m x
 
 taken_transfer_lines : (d : DriverContent) (e : ℕ) (x : Endpoint) (a : Asked) (h : Result Holding OfferError) → Lines d (taken_transfer d e x a h)
 taken_transfer_lines d e x a (Err why) = tt
-taken_transfer_lines d e x a (Ok h) = record { reports = refl; store = refl }
+taken_transfer_lines d e x a (Ok h) = record { reports = refl; store = refl; fewer = omega arith }
 
 open_transfer_lines : (d : DriverContent) (m : Mem) (e : ℕ) (x : Endpoint) (a : Asked) (cause : Option EndCause) → Lines d (open_transfer d m e x a cause)
 open_transfer_lines d m e x a (Some cause) = tt
@@ -98,7 +100,7 @@ transfer_lines d m name takes a = found_lines d m takes a (unwrap_or (endpoint_o
 
 taken_iso_lines : (d : DriverContent) (e : ℕ) (x : Endpoint) (s : Slots) (n seed : ℕ) (h : Result Holding OfferError) → Lines d (taken_iso d e x s n seed h)
 taken_iso_lines d e x s n seed (Err why) = tt
-taken_iso_lines d e x s n seed (Ok h) = record { reports = refl; store = refl }
+taken_iso_lines d e x s n seed (Ok h) = record { reports = refl; store = refl; fewer = omega arith }
 
 open_iso_lines : (d : DriverContent) (m : Mem) (e : ℕ) (x : Endpoint) (s : Slots) (n seed : ℕ) (cause : Option EndCause) → Lines d (open_iso d m e x s n seed cause)
 open_iso_lines d m e x s n seed (Some cause) = tt
@@ -121,18 +123,19 @@ pub record IsCancelled (d e : DriverContent) : Type 0 where
 frames_left : (d f : DriverContent) (e : ℕ) (x : Option Endpoint) → IsCancelled d f → IsCancelled d (leave_frames f e x)
 frames_left d f e None h = h
 frames_left d f e (Some x) h =
-    cond_both x.chained _ f (IsCancelled d) (λ _. record { lines = record { reports = h.lines.reports; store = h.lines.store }; room = h.room }) (λ _. h)
+    cond_both x.chained _ f (IsCancelled d) (λ _. record { lines = record { reports = h.lines.reports; store = h.lines.store; fewer = h.lines.fewer }; room = h.room }) (λ _. h)
 
 unchained : (d f : DriverContent) (e : ℕ) → IsCancelled d f → IsCancelled d (or_finished f (unfinished.Unchain e))
 unchained d f e h =
     cond_both (is_none f.periodic.list.work) (finished f (unfinished.Unchain e)) f (IsCancelled d)
-    (λ _. frames_left d (no_command f) e (slice_get f.endpoints e) (record { lines = record { reports = h.lines.reports; store = h.lines.store }; room = h.room }))
+    (λ _. frames_left d (no_command f) e (slice_get f.endpoints e) (record { lines = record { reports = h.lines.reports; store = h.lines.store; fewer = h.lines.fewer }; room = h.room }))
     (λ _. h)
 
 pub is_cancelled : (d : DriverContent) (e : ℕ) (x : Endpoint) (p : Option Placement) → IsCancelled d (cancelled_by d e x p)
-is_cancelled d e x None = record { lines = record { reports = refl; store = refl }; room = refl }
+is_cancelled d e x None = record { lines = record { reports = refl; store = refl; fewer = omega arith }; room = refl }
 is_cancelled d e x (Some p) =
-    unchained d (with_cancel d e x (endpoint_members d e x p)) e (record { lines = record { reports = refl; store = refl }; room = refl })
+    unchained d (with_cancel d e x (endpoint_members d e x p)) e
+    (record { lines = record { reports = refl; store = refl; fewer = omega arith }; room = refl })
 
 cancel_lines : (d : DriverContent) (m : Mem) (e : ℕ) (x : Option Endpoint) → Lines d (offered_cancel d m e x)
 cancel_lines d m e None = tt
@@ -140,7 +143,7 @@ cancel_lines d m e (Some x) =
     cond_both x.cancelled (Err (errors.Closed causes.Cancel)) (Ok (record { driver = cancelled_by d e x x.placement; memory = m })) (Lines d) (λ _. tt)
     (λ _. (is_cancelled d e x x.placement).lines)
 
-next_lines : (d : DriverContent) (m : Mem) (cmd : Cmd) → Lines d (offered_next d m cmd)
+pub next_lines : (d : DriverContent) (m : Mem) (cmd : Cmd) → Lines d (offered_next d m cmd)
 next_lines d m (commands.OpenEp x) = open_lines d m x (endpoint_named d x.name)
 next_lines d m (commands.Get name len by) = transfer_lines d m name takes_get (get_asked len by)
 next_lines d m (commands.Put name bytes by) = transfer_lines d m name takes_put (put_asked bytes by)

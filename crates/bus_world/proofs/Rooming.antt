@@ -215,7 +215,7 @@ cancel_leaves d m e (Some x) r room =
 
 -- ---- any command
 
-next_leaves : (d : DriverContent) (m : Mem) (cmd : Cmd) (r : Reserve) → HasRoomFor d.room (with_room (needs cmd) r) → Leaves r (offered_next d m cmd)
+pub next_leaves : (d : DriverContent) (m : Mem) (cmd : Cmd) (r : Reserve) → HasRoomFor d.room (with_room (needs cmd) r) → Leaves r (offered_next d m cmd)
 next_leaves d m (commands.OpenEp x) r room = open_leaves d m x r (endpoint_named d x.name) room
 next_leaves d m (commands.Get name len by) r room = transfer_leaves d m name takes_get (get_asked len by) r room
 next_leaves d m (commands.Put name bytes by) r room = transfer_leaves d m name takes_put (put_asked bytes by) r room
@@ -228,7 +228,7 @@ offer_leaves : (d : DriverContent) (m : Mem) (cmd : Cmd) (r : Reserve) → HasRo
 offer_leaves d m cmd r room = leaves_if r (busy d) (Err errors.Busy) (offered_next d m cmd) (λ _. tt) (λ _. next_leaves d m cmd r room)
 
 -- each command needs one line of the report
-one_line : (cmd : Cmd) → IsFitCommand cmd → 1 ≤ (needs cmd).reports
+pub one_line : (cmd : Cmd) → IsFitCommand cmd → 1 ≤ (needs cmd).reports
 one_line (commands.Iso name count len seed) fit = fit
 one_line _ fit = omega arith
 
@@ -259,6 +259,7 @@ can_offer room (commands.Get name len by) fit has = (fit.0, fit.1, has_room room
 can_offer room (commands.Put name bytes by) fit has = (fit.0, fit.1, has_room room (length bytes) has)
 can_offer room (commands.Control name setup bytes) fit has = has_room room (request_length setup) has
 can_offer room (commands.Iso name count len seed) fit has = (has.transfers, has.reports, has.report_bytes)
+can_offer room (commands.Clear name) fit has = omega (arith, has.reports)
 can_offer room _ fit has = has.reports
 
 -- the room for more has room for less

@@ -6,3 +6,8 @@ pub mod Budgets
 pub mod Opening
 pub mod Closing
 pub mod Runs
+pub mod AtWork
+pub mod Plain
+pub mod RunsAtWork
+pub mod ClosingAtWork
+pub mod BudgetsAtWork

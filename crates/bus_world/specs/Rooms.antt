@@ -34,6 +34,7 @@ needs (commands.Put name bytes by) = transfer_room (length bytes)
 needs (commands.Control name setup bytes) = transfer_room (request_length setup)
 needs (commands.Iso name count len seed) = iso_room count
 needs (commands.Cancel name) = record no_room { reports = 1 }
+needs (commands.Clear name) = record no_room { transfers = 1; reports = 2 }
 needs _ = record no_room { reports = 1 }
 
 abbrev pub needs_line : Line → Reserve

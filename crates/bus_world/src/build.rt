@@ -85,6 +85,13 @@ fn room_of(cmd: &Cmd) -> Reserve
             report_bytes: 24_576 * *count as u32,
             rules: FIRST_RULES,
         },
+        Cmd::Clear(_) => Reserve {
+            endpoints: 0,
+            transfers: 1,
+            reports: 2,
+            report_bytes: 0,
+            rules: FIRST_RULES,
+        },
         Cmd::Cancel(_) => Reserve {
             endpoints: 0,
             transfers: 0,
@@ -92,8 +99,7 @@ fn room_of(cmd: &Cmd) -> Reserve
             report_bytes: 0,
             rules: FIRST_RULES,
         },
-        Cmd::Clear(_)
-        | Cmd::Reset(_)
+        Cmd::Reset(_)
         | Cmd::Give(_)
         | Cmd::DiskRead { .. }
         | Cmd::DiskWrite { .. }

@@ -7,10 +7,14 @@
 //! that `print` and `image` give of it.
 #![tactic(auto)]
 
+pub mod budgets;
 mod build;
 mod closing;
+mod marks;
+pub mod plain;
 mod running;
 pub mod worked;
 mod world;
 
+pub use marks::Mark;
 pub use world::World;

@@ -15,3 +15,5 @@ pub mod Left
 pub mod Cancelled
 pub mod Isochronous
 pub mod Released
+pub mod Cleared
+pub mod JobRows

@@ -1,3 +1,4 @@
+pub mod JobEvents
 pub mod Makes
 pub mod Rooms
 pub mod Standing

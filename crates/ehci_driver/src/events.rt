@@ -49,7 +49,7 @@ impl Driver {
 
     /// Makes the event that this row tells.
     #[tactic(auto, using(std::proofs::lemmas::Grind::common_steps, crate::proofs::Kept::transfer_registers, crate::proofs::Kept::endpoint_registers, crate::proofs::Kept::unlink_registers, crate::proofs::Kept::removed_registers))]
-    fn make(&mut self, regs: &mut Registers, mem: &mut WordMem, row: DriverRow)
+    pub(crate) fn make(&mut self, regs: &mut Registers, mem: &mut WordMem, row: DriverRow)
         requires stands { Stands (holding self.old.book mem.old) }
         requires can { CanMake self.old row }
         ensures driver { self.new ≡ (after_driver_row row (parts self.old regs.old mem.old)).driver }

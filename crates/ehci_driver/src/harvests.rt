@@ -85,7 +85,7 @@ impl Driver {
     }
 
     /// The endpoint was served, and leaving work has the turn.
-    fn serve(&mut self, e: usize)
+    pub(crate) fn serve(&mut self, e: usize)
         requires { e + 1 < 2 ^ 64 }
         ensures driver { self.new ≡ served self.old e }
         ensures book { self.new.book ≡ self.old.book }
@@ -113,7 +113,7 @@ impl Driver {
     }
 
     /// This many bytes were moved in the qTD of this block.
-    fn set_moved(&mut self, block: u16, n: u16)
+    pub(crate) fn set_moved(&mut self, block: u16, n: u16)
         ensures { self.new ≡ record self.old { notes = noted self.old.notes block n } }
     {
         if block as usize >= self.notes.len() {

@@ -37,7 +37,7 @@ impl Driver {
     }
 
     /// Accepts or refuses a command where none is unfinished.
-    fn offer_next(&mut self, cmd: &Cmd, mem: &mut WordMem) -> Result<(), OfferError>
+    pub(crate) fn offer_next(&mut self, cmd: &Cmd, mem: &mut WordMem) -> Result<(), OfferError>
         requires stands { Stands (holding self.old.book mem.old) }
         requires offered { IsOffered self.old.room cmd.now }
         ensures accepted { IfOk result (λ _. offered_next self.old mem.old cmd.now ≡ Ok (standing self.new mem.new)) }

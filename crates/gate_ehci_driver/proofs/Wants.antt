@@ -1,4 +1,4 @@
--- What can be asked of a plan: an endpoint of the frame list at high speed, and an isochronous one behind a hub.
+-- What can be asked of a plan: an endpoint of the frame list at high speed, and one behind a hub.
 use Rattle.std.proofs.Common.{◌≡◌, ℕ, ◌≤◌, true, false, sym, subst, ◌∙◌, ap, arith}
 use Rattle.std.specs.Prelude.{is_some}
 use Rattle.usb_base.specs.declared.packets.Speed.{Speed}
@@ -31,12 +31,12 @@ wanted x speed hub port period some a b c d = λ p. record {
   tt = omega (arith, port);
 }
 
-pub wanted_behind : (x : EpDesc) → x.speed ≡ Full → x.kind ≡ kinds.Iso → is_some x.hub ≡ true → x.tt ≡ 0 → is_period x.period ≡ true → 8 ≤ x.period → 1 ≤ x.max → x.max ≤ 1023 → 1 ≤ x.multi → x.multi ≤ 1 → IsOpened x
-wanted_behind x speed kind hub port period some a b c d = λ p. record {
+pub wanted_behind : (x : EpDesc) (n : ℕ) → x.speed ≡ Full → n ≤ most_bytes Full x.kind → is_some x.hub ≡ true → x.tt ≡ 0 → is_period x.period ≡ true → 8 ≤ x.period → 1 ≤ x.max → x.max ≤ n → 1 ≤ x.multi → x.multi ≤ 1 → IsOpened x
+wanted_behind x n speed most hub port period some a b c d = λ p. record {
   period = period;
   frames = subst (λ (s : Speed). least_period s ≤ x.period) (sym speed) some;
   some_bytes = a;
-  bytes = subst (λ (s : Speed). x.max ≤ most_bytes s x.kind) (sym speed) (subst (λ (k : EpKind). x.max ≤ most_bytes Full k) (sym kind) b);
+  bytes = subst (λ (s : Speed). x.max ≤ most_bytes s x.kind) (sym speed) (omega (arith, b, most));
   some_multi = c;
   multi = subst (λ (s : Speed). x.multi ≤ most_multi s) (sym speed) d;
   hub = hub ∙ sym (ap (λ (s : Speed). is_classic s) speed);

@@ -48,10 +48,10 @@ fn tried(
     cmd: &Cmd,
 ) -> Result<(Option<Result<(), OfferError>>, bool), AllocError> {
     let before = Shot::of(alloc, host)?;
-    let room = host.driver().room();
+    let room = host.room();
     let answer = host.offer(cmd);
     let now = Shot::of(alloc, host)?;
-    let same = before.is_same(&now) && room == host.driver().room();
+    let same = before.is_same(&now) && room == host.room();
     Ok((answer, same))
 }
 
@@ -149,7 +149,7 @@ fn registers(alloc: Global, host: &Host) -> Result<String, AllocError> {
 
 /// What of the room isn't used.
 fn room(alloc: Global, host: &Host) -> Result<String, AllocError> {
-    let room = host.driver().room();
+    let room = host.room();
     format!(in alloc;
         "room {} {} {} {}",
         room.endpoints, room.transfers, room.reports, room.report_bytes
@@ -216,6 +216,7 @@ fn command_of(
             seed,
         })),
         Act::Cancel(_) => Ok(Some(Cmd::Cancel(name))),
+        Act::Clear(_) => Ok(Some(Cmd::Clear(name))),
         _ => Ok(None),
     }
 }
@@ -228,6 +229,7 @@ fn verb(act: &Act) -> &'static str {
         Act::Put(_, _, _) => "put",
         Act::Request(_, _, _) => "control",
         Act::Iso(_, _, _, _) => "iso",
+        Act::Clear(_) => "clear",
         _ => "cancel",
     }
 }
@@ -255,6 +257,7 @@ fn pipe_of(act: &Act) -> Option<Pipe> {
         | Act::Request(pipe, _, _)
         | Act::Iso(pipe, _, _, _)
         | Act::Cancel(pipe)
+        | Act::Clear(pipe)
         | Act::Refuse(pipe, _)
         | Act::Tell(pipe) => Some(pipe),
         _ => None,

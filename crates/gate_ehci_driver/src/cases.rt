@@ -20,6 +20,8 @@ pub(crate) enum Act {
     Iso(Pipe, u8, u16, u8),
     /// The endpoint is to be cancelled.
     Cancel(Pipe),
+    /// The halt of the endpoint is to be cleared.
+    Clear(Pipe),
     /// So many events of the driver.
     Events(u32),
     /// So many events of the driver, of which the last is told alone.

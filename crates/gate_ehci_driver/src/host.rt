@@ -1,32 +1,33 @@
 ghost use Rattle.std.specs.Prelude.{◌≡◌, ◌≤◌, ◌%◌, IsTrue};
-ghost use Rattle.bandwidth.specs.Placements.{is_period};
+ghost use Rattle.bandwidth.specs.Placements.{is_period, most_bytes};
 ghost use Rattle.mem_runs.specs.Book.{holding, Stands};
-ghost use Rattle.drv_table.specs.Offers.{IsOffered, IsOpened, HasRoom};
+ghost use Rattle.drv_table.specs.Offers.{IsOpened, HasRoom};
+ghost use Rattle.drv_jobs.specs.JobOffers.{IsOfferedAny};
 
-use ehci_driver::{Driver, DriverStep, Reserve};
+use ehci_driver::{Driver, DriverAtWork, DriverStep, Reserve};
 use op_registers::Registers;
 use std::alloc::Global;
 use std::marker::Model;
 use usb_base::{Cmd, EpDesc, EpKind, EpName, Memory, OfferError, Speed};
 use word_mem::WordMem;
 
-/// The driver, and the registers and words that it shares with a controller.
+/// The driver with its job, and the registers and words that it shares with a controller.
 #[derive(Drop)]
 pub(crate) struct Host {
-    driver: Driver,
+    driver: DriverAtWork,
     regs: Registers,
     mem: WordMem,
 }
 
 impl Model for Host {
     ghost use Rattle.mem_runs.specs.Book.{holding, Stands};
-    ghost use Rattle.drv_table.specs.Parts.{Parts};
+    ghost use Rattle.drv_jobs.specs.AtWork.{PartsAtWork};
 
-    ghost Value = { Parts };
+    ghost Value = { PartsAtWork };
 
-    ghost view = { λ h. record { driver = h.driver; registers = h.regs; memory = h.mem } };
+    ghost view = { λ h. record { parts = record { driver = h.driver.driver; registers = h.regs; memory = h.mem }; job = h.driver.job } };
 
-    ghost invariant = { λ h. Stands (holding h.driver.book h.mem) };
+    ghost invariant = { λ h. Stands (holding h.driver.driver.book h.mem) };
 }
 
 impl Host {
@@ -43,7 +44,11 @@ impl Host {
         let mut regs = Registers::reset();
         let mut mem = WordMem::build(alloc, words)?;
         let driver = Driver::build(alloc, room, &mut regs, &mut mem)?;
-        Ok(Host { driver, regs, mem })
+        Ok(Host {
+            driver: DriverAtWork::new(driver),
+            regs,
+            mem,
+        })
     }
 
     /// Offers a command. None: it isn't one that may be offered.
@@ -85,7 +90,12 @@ impl Host {
     }
 
     pub(crate) fn driver(&self) -> &Driver {
-        &self.driver
+        self.driver.driver()
+    }
+
+    /// What of the room isn't used, nor to be used by a clear.
+    pub(crate) fn room(&self) -> Reserve {
+        self.driver.room()
     }
 
     pub(crate) fn regs(&self) -> &Registers {
@@ -99,7 +109,7 @@ impl Host {
 
 /// Whether the command may be offered with this room.
 fn is_offered(room: &Reserve, cmd: &Cmd) -> bool
-    ensures { IsTrue result → IsOffered room.now cmd.now }
+    ensures { IsTrue result → IsOfferedAny room.now cmd.now }
 {
     match cmd {
         Cmd::OpenEp(desc) => room.endpoints >= 1
@@ -114,8 +124,8 @@ fn is_offered(room: &Reserve, cmd: &Cmd) -> bool
                 && *count as u32 <= room.reports
                 && 24_576 * *count as u32 <= room.report_bytes
         }
+        Cmd::Clear(_) => room.transfers >= 1 && room.reports >= 2,
         Cmd::Cancel(_)
-        | Cmd::Clear(_)
         | Cmd::Reset(_)
         | Cmd::Give(_)
         | Cmd::DiskRead { .. }
@@ -124,7 +134,7 @@ fn is_offered(room: &Reserve, cmd: &Cmd) -> bool
     }
 }
 
-/// Whether an endpoint may be opened: of those with a place in the frame list the ones at high speed, and isochronous ones at full speed.
+/// Whether an endpoint may be opened: of those with a place in the frame list the ones at high and at full speed.
 #[tactic(auto, using(std::proofs::lemmas::Grind::common_steps, crate::proofs::Wants::in_ring))]
 fn is_opened(desc: &EpDesc) -> bool
     ensures { IsTrue result → IsOpened desc.now }
@@ -133,11 +143,12 @@ fn is_opened(desc: &EpDesc) -> bool
         EpKind::Bulk | EpKind::Control => true,
         EpKind::Interrupt => match desc.speed {
             Speed::High => is_wanted(desc),
-            Speed::Full | Speed::Low => false,
+            Speed::Full => is_wanted_behind(desc, 64),
+            Speed::Low => false,
         },
         EpKind::Iso => match desc.speed {
             Speed::High => is_wanted(desc),
-            Speed::Full => is_wanted_behind(desc),
+            Speed::Full => is_wanted_behind(desc, 1023),
             Speed::Low => false,
         },
     }
@@ -155,17 +166,17 @@ fn is_wanted(desc: &EpDesc) -> bool
     desc.period >= 1 && desc.max >= 1 && desc.max <= 1024 && desc.multi >= 1 && desc.multi <= 3
 }
 
-/// Whether a plan may be asked for an isochronous endpoint behind a hub.
+/// Whether a plan may be asked for an endpoint behind a hub, with packets of so many bytes at most.
 #[tactic(auto, using(std::proofs::lemmas::Grind::common_steps, crate::proofs::Wants::wanted_behind))]
-fn is_wanted_behind(desc: &EpDesc) -> bool
+fn is_wanted_behind(desc: &EpDesc, most: u16) -> bool
     requires speed { desc.now.speed ≡ Speed.Full }
-    requires kind { desc.now.kind ≡ EpKind.Iso }
+    requires most { most ≤ most_bytes Speed.Full desc.now.kind }
     ensures { IsTrue result → IsOpened desc.now }
 {
     if desc.hub.is_none() || desc.tt != 0 || !is_power(desc.period) {
         return false;
     }
-    desc.period >= 8 && desc.max >= 1 && desc.max <= 1023 && desc.multi >= 1 && desc.multi <= 1
+    desc.period >= 8 && desc.max >= 1 && desc.max <= most && desc.multi >= 1 && desc.multi <= 1
 }
 
 /// Whether an endpoint may have this period.

@@ -6,6 +6,7 @@
 
 mod acts;
 mod cases;
+mod clears;
 mod events;
 mod host;
 mod image;
@@ -27,6 +28,10 @@ fn main(rt: HostRuntime) -> io::Result<()> {
         println!(rt; "{text}")?;
     }
     for case in periodic::all() {
+        let text = acts::describe(rt.alloc(), &case)?;
+        println!(rt; "{text}")?;
+    }
+    for case in clears::all() {
         let text = acts::describe(rt.alloc(), &case)?;
         println!(rt; "{text}")?;
     }

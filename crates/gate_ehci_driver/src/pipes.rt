@@ -15,6 +15,10 @@ pub(crate) enum Pipe {
     Classic,
     /// 5.0.ctl, control, full speed, behind port 2 of hub 9.
     ClassicControl,
+    /// 9.0.ctl, control, high speed: that of the hub.
+    Hub,
+    /// 5.2.in, interrupt, full speed, 8 bytes every 1,024 frames, behind port 2 of hub 9.
+    ClassicRare,
     /// 6.1.in, interrupt, 8 bytes every 1,024 frames.
     Rare,
     /// 6.2.in, interrupt, three packets of 1,024 bytes in each microframe.
@@ -40,6 +44,8 @@ pub(crate) fn name_of(pipe: Pipe) -> Option<EpName> {
         Pipe::Control => (4, 0, Way::Ctl),
         Pipe::Classic => (5, 1, Way::In),
         Pipe::ClassicControl => (5, 0, Way::Ctl),
+        Pipe::Hub => (9, 0, Way::Ctl),
+        Pipe::ClassicRare => (5, 2, Way::In),
         Pipe::Rare => (6, 1, Way::In),
         Pipe::Wide => (6, 2, Way::In),
         Pipe::OtherWide => (6, 3, Way::In),
@@ -59,9 +65,10 @@ pub(crate) fn name_of(pipe: Pipe) -> Option<EpName> {
 pub(crate) fn desc_of(pipe: Pipe) -> Option<EpDesc> {
     let (kind, speed, max) = match pipe {
         Pipe::In | Pipe::Out | Pipe::Other => (EpKind::Bulk, Speed::High, 512),
-        Pipe::Control => (EpKind::Control, Speed::High, 64),
+        Pipe::Control | Pipe::Hub => (EpKind::Control, Speed::High, 64),
         Pipe::Classic => (EpKind::Bulk, Speed::Full, 64),
         Pipe::ClassicControl => (EpKind::Control, Speed::Full, 64),
+        Pipe::ClassicRare => (EpKind::Interrupt, Speed::Full, 8),
         Pipe::Rare => (EpKind::Interrupt, Speed::High, 8),
         Pipe::Wide | Pipe::OtherWide => (EpKind::Interrupt, Speed::High, 1024),
         Pipe::IsoIn | Pipe::IsoOut => (EpKind::Iso, Speed::High, 64),
@@ -69,7 +76,7 @@ pub(crate) fn desc_of(pipe: Pipe) -> Option<EpDesc> {
         Pipe::SplitOut => (EpKind::Iso, Speed::Full, 376),
     };
     let (period, multi) = match pipe {
-        Pipe::Rare | Pipe::IsoOut => (8192, 1),
+        Pipe::ClassicRare | Pipe::Rare | Pipe::IsoOut => (8192, 1),
         Pipe::Wide | Pipe::OtherWide => (1, 3),
         Pipe::IsoIn | Pipe::SplitIn => (16, 1),
         Pipe::SplitOut => (8, 1),
