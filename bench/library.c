@@ -1,5 +1,5 @@
 /* What a microframe costs from C, in processor time: idle, and with eight packets of 512 bytes of a bulk IN, over 32 KiB and over 1 MiB; and
- * those packets an event a call, over 32 KiB and over 64 MiB. */
+ * those packets over 32 KiB and over 64 MiB an event a call, a transaction a call, and in one call whose answers were written down before. */
 #include "ehci_bus.h"
 
 #include <stdio.h>
@@ -49,14 +49,23 @@ static void measure(size_t words, int busy, int turns) {
     printf("%zu bytes, %.0f packets a microframe: %.0f us\n", 4 * words, (double)packets / turns, (now() - began) / turns);
 }
 
+static void tell(const char *how, size_t words, int turns, unsigned long events, double took) {
+    printf("%zu bytes, %.0f packets a microframe of %.0f events, %s: %.2f us, %.0f ns an event\n", 4 * words, (double)packets / turns,
+           (double)events / turns, how, took / turns, 1000 * took / events);
+}
+
+static void begin(struct ehci_whole *hc) {
+    lists();
+    ehci_whole_reset(hc);
+    ehci_whole_write(hc, 0x18, 0x1000);
+    ehci_whole_write(hc, 0x00, 0x00080021);
+    packets = 0;
+}
+
 static void measure_events(size_t words, int turns) {
     static struct ehci_whole hc;
     unsigned long events = 0;
-    lists();
-    ehci_whole_reset(&hc);
-    ehci_whole_write(&hc, 0x18, 0x1000);
-    ehci_whole_write(&hc, 0x00, 0x00080021);
-    packets = 0;
+    begin(&hc);
     double began = now();
     for (int turn = 0; turn < turns; turn++) {
         uint32_t kind;
@@ -67,9 +76,47 @@ static void measure_events(size_t words, int turns) {
             return;
         events++;
     }
-    double took = now() - began;
-    printf("%zu bytes, %.0f packets a microframe, an event a call: %.0f us, %.1f us an event\n", 4 * words, (double)packets / turns, took / turns,
-           took / events);
+    tell("an event a call", words, turns, events, now() - began);
+}
+
+static void measure_asked_runs(size_t words, int turns) {
+    static struct ehci_whole hc;
+    unsigned long events = 0;
+    begin(&hc);
+    double began = now();
+    for (int turn = 0; turn < turns; turn++) {
+        uint32_t made = EHCI_MOST_EVENTS;
+        refill();
+        if (ehci_run_on(&hc, ram, words, bus, 0, &made) != EHCI_END)
+            return;
+        events += made;
+    }
+    tell("a transaction a call", words, turns, events, now() - began);
+}
+
+static void measure_runs(size_t words, int turns) {
+    static struct ehci_whole hc;
+    static uint8_t bytes[4096], out[1024];
+    struct ehci_answer answers[8];
+    struct ehci_ask ask;
+    unsigned long events = 0;
+    begin(&hc);
+    memset(bytes, 7, sizeof bytes);
+    double began = now();
+    for (int turn = 0; turn < turns; turn++) {
+        uint32_t made = EHCI_MOST_EVENTS;
+        size_t used;
+        refill();
+        for (int i = 0; i < 8; i++) {
+            answers[i] = ehci_data(i % 2 ? EHCI_DATA1 : EHCI_DATA0, 512);
+            answers[i].start = 512u * (uint32_t)i;
+        }
+        if (ehci_run(&hc, ram, words, answers, 8, bytes, sizeof bytes, &made, &used, &ask, out, sizeof out) != EHCI_END)
+            return;
+        packets += used;
+        events += made;
+    }
+    tell("one call", words, turns, events, now() - began);
 }
 
 int main(void) {
@@ -79,5 +126,9 @@ int main(void) {
     measure(262144, 1, 100);
     measure_events(8192, 1000);
     measure_events(16777216, 1000);
+    measure_asked_runs(8192, 5000);
+    measure_asked_runs(16777216, 5000);
+    measure_runs(8192, 20000);
+    measure_runs(16777216, 20000);
     return 0;
 }

@@ -93,7 +93,7 @@ enum {
 uint32_t ehci_microframe(struct ehci *, uint32_t *words, size_t n, const struct ehci_answer *answers, size_t count, const uint8_t *bytes,
                          size_t len, uint32_t *events, struct ehci_ask *ask, uint8_t *out, size_t room);
 
-/* ---- One event a call ---- */
+/* ---- One event a call, or several ---- */
 
 /* What follows is the state in the middle of a microframe, as words that a chip holds and numbers. A caller copies it, saves it, restores
  * it; what it has to look at is `registers`, with the calls above. A number that names nothing counts as 0. */
@@ -182,7 +182,8 @@ enum {
     EHCI_SKIP,              /* there was nothing to do at the structure in hand */
     EHCI_END,               /* the microframe is over, or a host system error ended it */
     EHCI_STEP_WANTS_BUS,    /* a transaction is asked that has no answer */
-    EHCI_STEP_UNFIT         /* more words than 4 GiB - 32 bytes have, too little room, or no controller has this state */
+    EHCI_STEP_UNFIT,        /* more words than 4 GiB - 32 bytes have, too little room, or no controller has this state */
+    EHCI_RUN_ON             /* of ehci_run: as many events as were allowed were made, and the microframe isn't over */
 };
 
 /* Makes one event: the row of the controller's table over the registers and the words that are passed, which are memory from address 0 on.
@@ -198,6 +199,22 @@ enum {
  * ehci_microframe holds. */
 uint32_t ehci_step(struct ehci_whole *, uint32_t *words, size_t n, const struct ehci_answer *answers, size_t count, const uint8_t *bytes,
                    size_t len, struct ehci_ask *ask, uint8_t *out, size_t room);
+
+/* Makes events as ehci_step does, in the words as they stand, each transaction with its own answer in its turn: until one ends the
+ * microframe, the next asks what has no answer, or `*events` were made. The state and the words are those that so many calls of ehci_step
+ * leave, and what is in the struct is read and written once. `*events` tells how many were made, `*used` how many answers they took; the
+ * others were not looked at.
+ *
+ * EHCI_IDLE: Run is 0, and nothing changed.
+ * EHCI_END: the last of these events was the End of the microframe, or a host system error ended it.
+ * EHCI_STEP_WANTS_BUS: all answers were taken, and the next event asks `*ask`, and sends the first `ask->out_len` bytes of `out`. It isn't
+ * made: the state and the words are those before it. Call again with its answer.
+ * EHCI_STEP_UNFIT: as of ehci_step; nothing changed.
+ * EHCI_RUN_ON: `*events` were made, and the microframe isn't over. Of a ring without a head that is so however many are allowed.
+ *
+ * What is said of words, `out` and pointers at ehci_step holds. */
+uint32_t ehci_run(struct ehci_whole *, uint32_t *words, size_t n, const struct ehci_answer *answers, size_t count, const uint8_t *bytes,
+                  size_t len, uint32_t *events, size_t *used, struct ehci_ask *ask, uint8_t *out, size_t room);
 
 #ifdef __cplusplus
 }

@@ -36,6 +36,20 @@ mod c {
             out: *mut u8,
             room: usize,
         ) -> u32;
+        pub fn ehci_run(
+            whole: *mut Whole,
+            words: *mut u32,
+            n: usize,
+            answers: *const Answer,
+            count: usize,
+            bytes: *const u8,
+            len: usize,
+            events: *mut u32,
+            used: *mut usize,
+            ask: *mut Ask,
+            out: *mut u8,
+            room: usize,
+        ) -> u32;
     }
 }
 
@@ -330,6 +344,53 @@ impl Whole {
             7 => Stepped::End,
             8 => Stepped::WantsBus(ask),
             _ => Stepped::Unfit,
+        }
+    }
+}
+
+/// Why a call for several events made no more of them; each tells how many were made, and how many answers they took.
+#[derive(Clone, Copy, Debug, PartialEq, Eq)]
+pub enum Stopped {
+    Idle,
+    /// The microframe is over.
+    End(u32, usize),
+    /// All answers were taken; the next event asks this, with so many bytes of `out`.
+    WantsBus(u32, Ask),
+    /// As many as were allowed were made, and the microframe isn't over.
+    On(u32, usize),
+    Unfit,
+}
+
+impl Whole {
+    /// Makes events over these words, at most `most`, each transaction with its own answer in its turn, to the end of the microframe or to the
+    /// first transaction that has none.
+    pub fn run(&mut self, words: &mut [u32], heard: Vec<Heard>, most: u32, out: &mut [u8; 1024]) -> Stopped {
+        let mut bytes = Vec::new();
+        let answers: Vec<Answer> = heard.into_iter().map(|it| answer(it, &mut bytes)).collect();
+        let (mut ask, mut events, mut used) = (Ask::default(), most, 0);
+        // SAFETY: each pointer and length is of one slice that is borrowed for the call, and none of them overlaps another.
+        let stopped = unsafe {
+            c::ehci_run(
+                self,
+                words.as_mut_ptr(),
+                words.len(),
+                answers.as_ptr(),
+                answers.len(),
+                bytes.as_ptr(),
+                bytes.len(),
+                &mut events,
+                &mut used,
+                &mut ask,
+                out.as_mut_ptr(),
+                out.len(),
+            )
+        };
+        match stopped {
+            0 => Stopped::Idle,
+            7 => Stopped::End(events, used),
+            8 => Stopped::WantsBus(events, ask),
+            10 => Stopped::On(events, used),
+            _ => Stopped::Unfit,
         }
     }
 }

@@ -56,12 +56,37 @@ static inline uint32_t ehci_step_on(struct ehci_whole *hc, uint32_t *words, size
     uint8_t bytes[1024], out[1024];
     struct ehci_ask ask;
     memset(&ask, 0, sizeof ask);
+    bytes[0] = 0;
     uint32_t kind = ehci_step(hc, words, n, &answer, 0, bytes, 0, &ask, out, sizeof out);
     if (kind != EHCI_STEP_WANTS_BUS)
         return kind;
     answer = bus(user, &ask, out, bytes);
     answer.start = 0;
     return ehci_step(hc, words, n, &answer, 1, bytes, sizeof bytes, &ask, out, sizeof out);
+}
+
+/* Makes events to the end of the microframe, or as many as are allowed, of a bus that answers at once, and answers as ehci_run does;
+ * `*events` tells how many were made. */
+static inline uint32_t ehci_run_on(struct ehci_whole *hc, uint32_t *words, size_t n, ehci_bus *bus, void *user, uint32_t *events) {
+    struct ehci_answer answer = ehci_silent();
+    uint8_t bytes[1024], out[1024];
+    struct ehci_ask ask;
+    uint32_t left = *events;
+    size_t used, count = 0;
+    memset(&ask, 0, sizeof ask);
+    bytes[0] = 0;
+    for (;;) {
+        uint32_t made = left;
+        uint32_t ran = ehci_run(hc, words, n, &answer, count, bytes, sizeof bytes, &made, &used, &ask, out, sizeof out);
+        left -= made;
+        if (ran != EHCI_STEP_WANTS_BUS) {
+            *events -= left;
+            return ran;
+        }
+        answer = bus(user, &ask, out, bytes);
+        answer.start = 0;
+        count = 1;
+    }
 }
 
 #endif

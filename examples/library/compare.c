@@ -1,5 +1,5 @@
-/* compare IMAGE ANSWERS microframes|events N OUT: makes N microframes, or N events a call each, over the words of a memory image
- * (docs/FORMATS.md) and a bus that gives the answers of a file, each where the transaction that it answers is asked, writes the words to OUT,
+/* compare IMAGE ANSWERS microframes|runs|events N OUT: makes N microframes, or N in runs of some events a call, or N events a call each, over
+ * the words of a memory image (docs/FORMATS.md) and a bus that gives the answers of a file, each where the transaction that it answers is asked, writes the words to OUT,
  * and prints how many events that were, and how many transactions no record answers.
  *
  * ANSWERS has a record for each transaction, numbers with the low byte first: the token's packet identifier, address and endpoint (a byte
@@ -64,6 +64,20 @@ static unsigned long make_microframes(struct ehci *hc, uint32_t *words, uint32_t
     return total;
 }
 
+/* As many events a call as are left of a number from 1 to 23, so that runs end anywhere in a microframe. */
+static unsigned long make_runs(struct ehci_whole *hc, uint32_t *words, uint32_t n, struct records *records, int count) {
+    unsigned long total = 0;
+    for (uint32_t turn = 0; count > 0; turn++) {
+        uint32_t events = 1 + turn * 7 % 23;
+        uint32_t ran = ehci_run_on(hc, words, n, bus, records, &events);
+        if (ran != EHCI_END && ran != EHCI_RUN_ON)
+            exit(1);
+        total += events;
+        count -= ran == EHCI_END;
+    }
+    return total;
+}
+
 static unsigned long make_events(struct ehci_whole *hc, uint32_t *words, uint32_t n, struct records *records, int count) {
     for (int i = 0; i < count; i++)
         if (ehci_step_on(hc, words, n, bus, records) > EHCI_END)
@@ -89,6 +103,7 @@ int main(int argc, char **argv) {
     set_registers(&hc, image);
     int count = atoi(argv[4]);
     unsigned long total = strcmp(argv[3], "events") == 0 ? make_events(&hc, words, n, &records, count)
+                          : strcmp(argv[3], "runs") == 0 ? make_runs(&hc, words, n, &records, count)
                                                          : make_microframes(&hc.registers, words, n, &records, count);
     for (uint32_t i = 0; i < n; i++)
         for (int j = 0; j < 4; j++)

@@ -5,6 +5,7 @@
 #include <stdio.h>
 
 static struct ehci hc;
+static struct ehci_whole whole;
 static struct ehci_ask ask;
 static uint8_t out[1024];
 static const uint8_t bytes[4] = {1, 2, 3, 4};
@@ -32,6 +33,28 @@ static void call(const char *name, size_t n, const struct ehci_answer *answers, 
     printf("%s: %s, %s, USBSTS %04x, token %08x\n", name, results[ran], same ? "same" : "changed", ehci_read(&hc, 4), get(0x1018));
 }
 
+/* Makes a call of several events, and prints what came of it. */
+static void run(const char *name, const struct ehci_answer *answers, size_t count, size_t room, uint32_t most) {
+    static uint32_t before[8192];
+    static const char *results[] = {"idle", "", "", "", "", "", "", "end", "wants bus", "unfit", "on"};
+    static struct ehci_whole then;
+    uint32_t events = most;
+    size_t used;
+    then = whole;
+    memcpy(before, ram, sizeof ram);
+    uint32_t ran = ehci_run(&whole, ram, 8192, answers, count, bytes, sizeof bytes, &events, &used, &ask, out, room);
+    bool same = memcmp(before, ram, sizeof ram) == 0 && memcmp(&then, &whole, sizeof whole) == 0;
+    printf("%s: %s, %s, %u events, %zu answers, USBSTS %04x, token %08x\n", name, results[ran], same ? "same" : "changed", events, used,
+           ehci_read(&whole.registers, 4), get(0x1018));
+}
+
+static void begin_whole(uint32_t command) {
+    begin(0x1002, 0x8000, 0x00080020);
+    ehci_whole_reset(&whole);
+    ehci_whole_write(&whole, 0x18, 0x1000);
+    ehci_whole_write(&whole, 0x00, command);
+}
+
 int main(void) {
     const struct ehci_answer nak = ehci_handshake(EHCI_NAK);
     const struct ehci_answer wrong[] = {{9, EHCI_NAK, 0, 0}, ehci_handshake(0), {EHCI_DATA, EHCI_DATA0, 5, 0}, {EHCI_DATA, EHCI_DATA0, 1, 4}};
@@ -55,5 +78,20 @@ int main(void) {
     call("a frame list past the words", 8192, &nak, 1, 1024, 1000);
     call("after it", 8192, &nak, 1, 1024, 1000);
     printf("no register: %08x\n", ehci_read(&hc, 0x1c));
+    begin_whole(0x00080020);
+    run("a run that is not running", &nak, 1, 1024, 1000);
+    begin_whole(0x00080021);
+    run("a run with little room", &nak, 1, 1023, 1000);
+    run("a run of no event", &nak, 1, 1024, 0);
+    run("a run of two events", &nak, 1, 1024, 2);
+    run("a run without an answer", &nak, 0, 1024, 1000);
+    run("and again", &nak, 0, 1024, 1000);
+    run("a run with it", &nak, 1, 1024, 1000);
+    begin_whole(0x00080021);
+    run("a run with answers to spare", wrong, 4, 1024, 1000);
+    begin_whole(0x00080021);
+    ehci_whole_write(&whole, 0x14, 0x8000);
+    run("a run over a frame list past the words", &nak, 1, 1024, 1000);
+    run("a run after it", &nak, 1, 1024, 1000);
     return 0;
 }

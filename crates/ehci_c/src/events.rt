@@ -1,4 +1,4 @@
-ghost use Rattle.std.specs.Prelude.{◌≡◌, ◌≢◌, ◌≤◌, length, Some};
+ghost use Rattle.std.specs.Prelude.{◌≡◌, ◌≢◌, ◌≤◌, false, length, Some};
 ghost use Rattle.lent_words.specs.Lent.{most_lent};
 ghost use Rattle.op_registers.specs.RegisterFile.{reset_file};
 ghost use Rattle.op_registers.specs.Table.{after_write};
@@ -6,10 +6,10 @@ ghost use Rattle.hc_core.specs.Controller.{Control, new_control};
 ghost use Rattle.hc_microframe.specs.State.{shown, file_of};
 ghost use Rattle.hc_microframe.specs.Numbers.{control_of};
 ghost use Rattle.hc_microframe.specs.Stepping.{control_after_write};
-ghost use Rattle.hc_microframe.specs.EventCalls.{Steps, HoldsUp};
+ghost use Rattle.hc_microframe.specs.EventCalls.{Steps, HoldsUp, Runs, RunsOver, RunsToAsk};
 
 use crate::tell_asked;
-use hc_microframe::{Answer, AskWords, Desk, Stepped, Whole, kind_number};
+use hc_microframe::{Answer, AskWords, Desk, RunStop, Stepped, Whole, kind_number};
 
 /// A controller after a reset, between two events.
 #[unsafe(no_mangle)]
@@ -62,5 +62,67 @@ pub extern "C" fn ehci_step(
             8
         }
         Stepped::Unfit => 9,
+    }
+}
+
+/// Makes events over these words and a bus that gives these answers, one to each transaction in its turn: until one ends the microframe,
+/// the next asks what has no answer, or `*events` were made. `*events` tells how many that were, and `*used` how many answers they took.
+///
+/// - 0: Run is 0.
+/// - 7: the last of them ended the microframe.
+/// - 8: the next asks what has no answer: `ask`, with the first `ask.out_len` bytes of `out`. It isn't made.
+/// - 9: the words are more than 1,073,741,816, `out` has room for fewer than 1,024 bytes, or the state is no controller's.
+/// - 10: as many were made as were allowed, and the microframe isn't over.
+///
+/// For 0 and 9 the state and the words stay.
+#[unsafe(no_mangle)]
+pub extern "C" fn ehci_run(
+    whole: &mut Whole,
+    words: &mut [u32],
+    answers: &[Answer],
+    bytes: &[u8],
+    events: &mut u32,
+    used: &mut usize,
+    ask: &mut AskWords,
+    out: &mut [u8],
+) -> u32
+    ensures over { result ≡ 7 → RunsOver whole.old words.old answers.now bytes.now events.new used.new whole.new words.new }
+    ensures wants { result ≡ 8 → RunsToAsk whole.old words.old answers.now bytes.now events.new whole.new words.new ask.new out.new }
+    ensures long { result ≡ 10 → Runs whole.old words.old answers.now bytes.now events.old used.new whole.new words.new }
+    ensures allowed { events.new ≤ events.old }
+    ensures idle { result ≡ 0 → (file_of whole.old.registers).run ≡ false }
+    ensures unfit { result ≡ 9 → length words.old ≤ most_lent → 1024 ≤ length out.old → (c : Control) → control_of whole.old ≢ Some c }
+    ensures known { result ≤ 10 }
+    ensures idle_stays { result ≡ 0 → (whole.new ≡ whole.old) × (words.new ≡ words.old) }
+    ensures unfit_stays { result ≡ 9 → (whole.new ≡ whole.old) × (words.new ≡ words.old) }
+{
+    let most = *events;
+    *used = 0;
+    if out.len() < 1024 {
+        *events = 0;
+        return 9;
+    }
+    let mut desk = Desk::of(answers, bytes);
+    let stop = hc_microframe::run(whole, words, &mut desk, most);
+    *used = answers.len().saturating_sub(desk.left());
+    match stop {
+        RunStop::Idle => {
+            *events = 0;
+            0
+        }
+        RunStop::Over(made) => {
+            *events = made;
+            7
+        }
+        RunStop::WantsBus(made) => {
+            *events = made;
+            tell_asked(&desk, ask, out);
+            8
+        }
+        RunStop::Long => 10,
+        RunStop::Unfit => {
+            *events = 0;
+            9
+        }
     }
 }

@@ -13,7 +13,7 @@ ghost use Rattle.hc_microframe.specs.Answers.{told};
 ghost use Rattle.hc_microframe.specs.Microframe.{IsFit, IsLong};
 ghost use Rattle.hc_microframe.specs.Calls.{IsTold, Makes, Asks};
 
-pub use events::{ehci_step, ehci_whole_reset, ehci_whole_write};
+pub use events::{ehci_run, ehci_step, ehci_whole_reset, ehci_whole_write};
 use hc_microframe::{Answer, AskWords, Desk, Ran, State, Wanted, ask_words, microframe};
 use std::alloc::Global;
 

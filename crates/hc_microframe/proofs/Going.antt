@@ -1,5 +1,5 @@
 -- One event more of a microframe, and a microframe that was made.
-use Rattle.std.proofs.Common.{◌≡◌, ℕ, ◌+◌, Bool, true, false, ◌||◌, not, List, Option, None, Some, refl, ap, sym, subst, ◌∙◌}
+use Rattle.std.proofs.Common.{◌≡◌, ℕ, ◌+◌, Bool, false, ◌||◌, not, List, Option, None, Some, refl, ap, sym, subst, ◌∙◌}
 use Rattle.std.specs.Prelude.{is_some}
 use Rattle.word_mem.specs.Memory.{Mem, all_lent}
 use Rattle.op_registers.specs.RegisterFile.{RegisterFile}
@@ -7,12 +7,11 @@ use Rattle.op_registers.specs.Table.{after_write}
 use Rattle.hc_core.specs.declared.controller.HcStep.{HcStep}
 use Rattle.hc_core.specs.Controller.{Content, Control, content, new_control, microframe_row, kind_of}
 use Rattle.hc_microframe.specs.declared.answers.Wanted.{Wanted}
-use Rattle.hc_microframe.specs.declared.running.Ran.{Ran}
 use Rattle.hc_microframe.specs.declared.running.Ran.TheVariants as runs
 use Rattle.hc_microframe.specs.declared.state.State.{State}
 use Rattle.hc_microframe.specs.Answers.{Told}
 use Rattle.hc_microframe.specs.State.{shown, file_of}
-use Rattle.hc_microframe.specs.Microframe.{entered_at, opening, IsEvent, is_end, is_last, Goes, IsOver, cursor_after, IsMade}
+use Rattle.hc_microframe.specs.Microframe.{entered_at, opening, IsEvent, is_end, Goes, IsOver, cursor_after, IsMade}
 use Rattle.hc_microframe.specs.Microframe.Goes.{next}
 
 pub nothing_wanted : (wanted : Option Wanted) → is_some wanted ≡ false → wanted ≡ None

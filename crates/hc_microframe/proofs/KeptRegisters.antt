@@ -68,7 +68,7 @@ begun_at_held false allowed c h = of_shape c.registers (after_fault c.registers)
 abbrev registers_of : Content → RegisterFile
 registers_of c = c.registers
 
-row_held : (row : ControllerRow) (old : Content) (before : Told) (new : Content) (after : Told)
+pub row_held : (row : ControllerRow) (old : Content) (before : Told) (new : Content) (after : Told)
     → HasRow Begins Answers row old before new after → IsHeld old.registers → IsHeld new.registers
 row_held events.Idle old before new after l h = subst IsHeld (sym (ap registers_of l.0)) h
 row_held events.Begin old before new after l h =
@@ -98,7 +98,7 @@ reset_held = record {
   ports = refl;
 }
 
-told_held : (s : State) → s.list < 2 ^ 32 → s.ring < 2 ^ 32 → IsHeld (file_of s)
+pub told_held : (s : State) → s.list < 2 ^ 32 → s.ring < 2 ^ 32 → IsHeld (file_of s)
 told_held s list ring =
     either_held (asks_reset (rows Command) s.command) reset_file _ reset_held (record {
       ranges = record { enables_named = omega arith; index_wraps = omega arith; base_aligned = omega arith; address_aligned = omega arith };

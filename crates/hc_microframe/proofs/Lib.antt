@@ -10,3 +10,5 @@ mod OneEvent
 mod RingShapes
 mod FrameShapes
 mod KeptRegisters
+mod EventsInRow
+mod CallsInRow

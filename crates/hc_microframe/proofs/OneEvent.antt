@@ -49,7 +49,8 @@ is_stepped s words lent desk kind k read control regs next next_regs now after a
       answered = nothing_wanted after.wanted (sym asks ∙ unasked);
       registers = registers;
       to = to;
-      memory = memory;
+      refused = row.refused;
+      memory = ap (λ (ws : List ℕ). lent_mem ws row.refused) (sym memory);
     })
 
 pub is_held_up : (s : Whole) (words lent : List ℕ) (desk : Told) (read : Option Control) (control : Control) (regs : RegisterFile)

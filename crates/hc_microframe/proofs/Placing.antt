@@ -1,5 +1,5 @@
 -- The place in the ring that is kept is that of the walk.
-use Rattle.std.proofs.Common.{◌≡◌, ℕ, Bool, true, false, ◌||◌, not, List, Option, None, Some, ap, refl, sym, subst, ◌∙◌, if◌then◌else◌}
+use Rattle.std.proofs.Common.{◌≡◌, ℕ, Bool, true, false, ◌||◌, not, Option, None, Some, ap, refl, sym, subst, ◌∙◌, if◌then◌else◌}
 use Rattle.std.specs.Prelude.{unwrap_or}
 use Rattle.word_mem.specs.Memory.{reaches}
 use Rattle.op_registers.specs.RegisterFile.{RegisterFile}
@@ -15,10 +15,10 @@ use Rattle.hc_core.specs.declared.controller.MicroframePart.{MicroframePart}
 use Rattle.hc_core.specs.declared.controller.MicroframePart.TheVariants.{Over, Periodic, Asynchronous}
 use Rattle.hc_core.specs.declared.controller.ControllerRow.{ControllerRow}
 use Rattle.hc_core.specs.declared.controller.ControllerRow.TheVariants as rows
-use Rattle.hc_core.specs.Controller.{Content, Control, microframe_row, part_row, enter_row, ring_row, element_address, begun_at, entered, hc_step, part_after, frame_step, walk_place, walk_step, either_address, address_in_hand, kind_of, HasRow}
+use Rattle.hc_core.specs.Controller.{Content, Control, microframe_row, part_row, enter_row, ring_row, element_address, begun_at, entered, hc_step, part_after, frame_step, walk_place, walk_step, either_address, kind_of, HasRow}
 use Rattle.hc_microframe.specs.declared.state.State.{State}
 use Rattle.hc_microframe.specs.Answers.{Told, Begins, Answers}
-use Rattle.hc_microframe.specs.Microframe.{opening, IsEvent, is_end, Goes, IsOver, cursor_after, IsMade}
+use Rattle.hc_microframe.specs.Microframe.{opening, IsEvent, is_end, Goes}
 use Rattle.hc_microframe.specs.Microframe.Goes.{none, next}
 use Rattle.hc_microframe.specs.Places.{RingStands, IsPlaced, PlaceIsKept}
 use Rattle.hc_microframe.proofs.Ringing.{Tells, Leaves, ring_leaves}

@@ -28,7 +28,7 @@ use Rattle.async_walk.specs.declared.state.WalkStep.{WalkStep}
 use Rattle.async_walk.specs.declared.state.WalkStep.TheVariants as steps
 use Rattle.async_walk.specs.Walk.{Walk, cursor_address, held_address}
 use Rattle.async_walk.specs.Naks.{may_work, planned}
-use Rattle.async_walk.specs.Rows.{WalkPlace, cursor_link, started, started_registers, fetch_row, ring_row, work_row, taken_row, take_row, visit_row, held_row, row_at, faulted, head_read, fetched_registers, fetched, passed, passed_walk, took, took_step, wrote, wrote_place, wrote_settled, wrote_step, wrote_step_settled, writing, transacted, sent_step, SentAt, Sends, Leads, step_of, at_event, event_row}
+use Rattle.async_walk.specs.Rows.{WalkPlace, cursor_link, started, started_registers, fetch_row, ring_row, work_row, taken_row, take_row, visit_row, held_row, row_at, faulted, head_read, fetched_registers, fetched, passed, passed_walk, took, took_step, wrote, wrote_place, wrote_settled, wrote_step, wrote_step_settled, writing, sent_step, SentAt, Sends, Leads, step_of, at_event, event_row}
 use Rattle.hc_microframe.specs.Places.{RingStands}
 
 pub either : {A : Type 0} (P : A → Type 0) (b : Bool) (x y : A) → P x → P y → P (if b then x else y)

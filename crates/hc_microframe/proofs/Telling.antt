@@ -10,7 +10,8 @@ use Rattle.hc_microframe.specs.Microframe.{IsWanted}
 use Rattle.hc_microframe.specs.Calls.{IsTold, Asks}
 use Rattle.hc_microframe.specs.declared.whole.Whole.{Whole}
 use Rattle.hc_microframe.specs.Stepping.{IsHeldUp}
-use Rattle.hc_microframe.specs.EventCalls.{HoldsUp}
+use Rattle.hc_microframe.specs.Several.{IsRunHeldUp}
+use Rattle.hc_microframe.specs.EventCalls.{HoldsUp, RunsToAsk}
 
 asks_this : (s : State) (words : List ℕ) (answers : List Answer) (bytes : List ℕ) (n : ℕ) (after : Told) (ask : AskWords) (out : List ℕ)
     (wanted : Option Wanted) → IsWanted s words (told answers bytes) n after → after.wanted ≡ wanted → is_some wanted ≡ true
@@ -35,3 +36,17 @@ pub holds_up : (s : Whole) (words : List ℕ) (answers : List Answer) (bytes : L
     → IsHeldUp s words (told answers bytes) after → IfSome after.wanted (λ w. IsTold w ask out) → HoldsUp s words answers bytes ask out
 holds_up s words answers bytes after ask out made tells =
     holds_this s words answers bytes after ask out after.wanted made refl made.wanted tells
+
+run_holds_this : (s : Whole) (words : List ℕ) (answers : List Answer) (bytes : List ℕ) (n : ℕ) (new : Whole) (left : List ℕ) (after : Told)
+    (ask : AskWords) (out : List ℕ) (wanted : Option Wanted) → IsRunHeldUp s words (told answers bytes) n new left after
+    → after.wanted ≡ wanted → is_some wanted ≡ true → IfSome wanted (λ w. IsTold w ask out)
+    → RunsToAsk s words answers bytes n new left ask out
+run_holds_this s words answers bytes n new left after ask out None made is some tells = absurd cc
+run_holds_this s words answers bytes n new left after ask out (Some w) made is some tells =
+    record { after = after; wanted = w; made = made; first = is; is_told = tells }
+
+pub runs_to_ask : (s : Whole) (words : List ℕ) (answers : List Answer) (bytes : List ℕ) (n : ℕ) (new : Whole) (left : List ℕ)
+    (after : Told) (ask : AskWords) (out : List ℕ) → IsRunHeldUp s words (told answers bytes) n new left after
+    → IfSome after.wanted (λ w. IsTold w ask out) → RunsToAsk s words answers bytes n new left ask out
+runs_to_ask s words answers bytes n new left after ask out made tells =
+    run_holds_this s words answers bytes n new left after ask out after.wanted made refl made.made.wanted tells

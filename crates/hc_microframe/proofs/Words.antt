@@ -1,8 +1,8 @@
 -- The words of registers tell all that they hold.
-use Rattle.std.proofs.Common.{None, ◌≡◌, ◌≤◌, ◌∙◌, ◌^◌, ◌<◌, ◌+◌, ◌*◌, ℕ, Bool, true, false, refl, ap, sym, arith, lit≤}
-use Rattle.std.specs.Prelude.{◌==◌, ◌||◌, not, ◌&&◌, if◌then◌else◌}
+use Rattle.std.proofs.Common.{None, ◌≡◌, ◌≤◌, ◌∙◌, ◌^◌, ◌<◌, ◌*◌, ℕ, Bool, true, false, refl, ap, sym, arith, lit≤}
+use Rattle.std.specs.Prelude.{◌==◌, ◌||◌}
 use Rattle.op_registers.specs.RegisterFile.{RegisterFile}
-use Rattle.op_registers.specs.declared.register.Register.TheVariants.{Command, InterruptEnable, FrameIndex, PeriodicListBase, AsyncListAddress, ConfigureFlag}
+use Rattle.op_registers.specs.declared.register.Register.TheVariants.{Command, InterruptEnable, FrameIndex, PeriodicListBase, AsyncListAddress}
 use Rattle.op_registers.specs.Table.{one_if, word_of, bits_of}
 use Rattle.op_registers.proofs.StatusBits.{has_interrupt, has_error, has_port_change, has_rollover, has_host_system_error, has_async_advance, has_reclamation}
 use Rattle.hc_microframe.specs.State.{shown, file_of, IsHeld, WordsKeepRegisters}

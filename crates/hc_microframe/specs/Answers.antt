@@ -4,7 +4,7 @@
 --     words_of_ask w       a transaction that is wanted
 --     Told                 the answers that are left, and what was asked when none was
 --     answer_of, asked     what is heard next, and what is left then
-use Rattle.std.specs.Prelude.{◌≡◌, ℕ, ◌+◌, Bool, true, false, ◌==◌, ◌&&◌, nat_le, if◌then◌else◌, List, [], ◌∷◌, length, take, drop, Option, Some, None}
+use Rattle.std.specs.Prelude.{◌≡◌, ℕ, ◌+◌, Bool, true, ◌==◌, ◌&&◌, nat_le, if◌then◌else◌, List, [], ◌∷◌, length, take, drop, Option, Some, None}
 use Rattle.usb_base.specs.declared.packets.Ask.{Ask}
 use Rattle.usb_base.specs.declared.packets.DataPart.{DataPart}
 use Rattle.usb_base.specs.declared.packets.DataPart.TheVariants as parts

@@ -7,3 +7,4 @@ pub mod Samples
 pub mod Numbers
 pub mod Stepping
 pub mod EventCalls
+pub mod Several

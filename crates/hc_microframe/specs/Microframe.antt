@@ -5,7 +5,7 @@
 --     IsOver start desk n held c t       n were made, and the last of them was the last; `held` was in hand before it
 --     IsMade s words desk n ..           that is the whole microframe, and these are the state and the words after it
 --     IsWanted s words desk n t          n were made, and the last asked what has no answer
-use Rattle.std.specs.Prelude.{◌≡◌, ℕ, ◌+◌, ◌≤◌, ◌%◌, Bool, true, false, ◌&&◌, ◌||◌, ◌==◌, not, if◌then◌else◌, List, Option, None, is_none, is_some, unwrap_or}
+use Rattle.std.specs.Prelude.{◌≡◌, ℕ, ◌+◌, ◌≤◌, ◌%◌, Bool, true, false, ◌||◌, ◌==◌, not, if◌then◌else◌, List, Option, None, is_some, unwrap_or}
 use Rattle.usb_base.specs.Limits.{most_memory}
 use Rattle.word_mem.specs.Memory.{all_lent}
 use Rattle.op_registers.specs.RegisterFile.{RegisterFile}

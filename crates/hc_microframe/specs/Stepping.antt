@@ -1,6 +1,7 @@
 -- One event of a controller whose state its caller keeps (EHCI 1.0, 4.1 and 4.6 to 4.12).
 --     opening c s words                c over the registers and the words that were given
---     IsStepped s words desk kind ..   that is one row of the controller's table, and these are the state and the words after it
+--     IsStepped s words desk kind ..   that is one row of the controller's table, and these are the state and the words after it, of which
+--                                      some accesses may have been refused
 --     IsHeldUp s words desk t          the row asks what has no answer
 --     LeavesWords start desk ..        one row leads to this controller over these registers and words
 --     control_after_write at word c    the controller after a driver's write
@@ -33,7 +34,8 @@ pub record IsStepped (s : Whole) (words : List ℕ) (desk : Told) (kind : HcStep
   pub answered : after.wanted ≡ None
   pub registers : new.registers ≡ shown end.registers 0
   pub to : control_of new ≡ Some end.control
-  pub memory : left ≡ end.memory.words
+  pub refused : ℕ
+  pub memory : end.memory ≡ lent_mem left refused
 
 pub record IsHeldUp (s : Whole) (words : List ℕ) (desk : Told) (after : Told) : Type 0 where
   pub control : Control

@@ -1,4 +1,4 @@
-ghost use Rattle.std.specs.Prelude.{◌≡◌, ◌≤◌, ◌-◌, ◌&&◌, IsTrue, ◌↔◌, List, ℕ, length, Some, None, is_some, option_copied};
+ghost use Rattle.std.specs.Prelude.{◌≡◌, ◌≤◌, ◌-◌, ◌&&◌, ◌==◌, IsTrue, ◌↔◌, List, ℕ, length, Some, None, is_some, option_copied};
 ghost use Rattle.hc_microframe.specs.Answers.{pid_named, hand, packet, is_whole, first_wanted, answer_in, told, answer_of, asked, Begins, Answers};
 
 use crate::answers::{Answer, Wanted, pid_of};
@@ -92,6 +92,20 @@ impl<'a, 'b> Desk<'a, 'b> {
         ensures { result ≡ is_some self.now.wanted }
     {
         self.wanted.is_some()
+    }
+
+    /// Whether no answer is left.
+    pub fn is_empty(&self) -> bool
+        ensures { result ≡ (length self.now.answers == 0) }
+    {
+        self.answers.is_empty()
+    }
+
+    /// How many answers are left.
+    pub fn left(&self) -> usize
+        ensures { result ≡ length self.now.answers }
+    {
+        self.answers.len()
     }
 
     fn want(&mut self, ask: &Ask, out: &[u8])

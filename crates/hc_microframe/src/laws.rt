@@ -3,6 +3,7 @@
 ghost use Rattle.hc_microframe.specs.State.{WordsKeepRegisters};
 ghost use Rattle.hc_microframe.specs.Places.{PlaceIsKept};
 ghost use Rattle.hc_microframe.specs.Stepping.{AsksOnce, RegistersAreKept};
+ghost use Rattle.hc_microframe.specs.Several.{CallsAreRun, CallsAreRunOver, RunIsHeldUp};
 
 /// The words of registers tell all that they hold: from the words the registers are got back.
 pub fn words_keep_registers()
@@ -22,4 +23,19 @@ pub fn asks_once()
 /// The words that a call for one event leaves tell the registers after its row: the next call goes on with them.
 pub fn registers_are_kept()
     ensures { RegistersAreKept }
+{}
+
+/// So many calls for one event, none of them the last of its microframe, are one call for so many.
+pub fn calls_are_run()
+    ensures { CallsAreRun }
+{}
+
+/// The same where the last of them ends the microframe.
+pub fn calls_are_run_over()
+    ensures { CallsAreRunOver }
+{}
+
+/// Where a call for several events wants an answer, a call for one event from there wants it.
+pub fn run_is_held_up()
+    ensures { RunIsHeldUp }
 {}

@@ -17,6 +17,7 @@ mod laws;
 mod making;
 mod numbers;
 mod running;
+mod several;
 mod state;
 mod stepping;
 mod whole;
@@ -25,9 +26,13 @@ pub mod worked_events;
 
 pub use answers::{Answer, AskWords, Wanted, ask_words};
 pub use desk::Desk;
-pub use laws::{asks_once, place_is_kept, registers_are_kept, words_keep_registers};
+pub use laws::{
+    asks_once, calls_are_run, calls_are_run_over, place_is_kept, registers_are_kept,
+    run_is_held_up, words_keep_registers,
+};
 pub use numbers::{HeardWords, ItdWords, QueueWords, SitdWords};
 pub use running::{Ran, microframe};
+pub use several::{RunStop, run};
 pub use state::{State, interrupts, read, registers_of, reset, state_of, write};
 pub use stepping::{Stepped, kind_number, step, write_between};
 pub use whole::{FrameWords, HandWords, RingWords, Whole, reset_whole};

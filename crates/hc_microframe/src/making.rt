@@ -21,7 +21,7 @@ pub(crate) enum Stop {
 }
 
 /// Whether an event of this kind, which leaves the controller running or not, is the last of its microframe.
-fn is_last(step: HcStep, running: bool) -> bool
+pub(crate) fn is_last(step: HcStep, running: bool) -> bool
     ensures { result ≡ (is_end step || not running) }
 {
     !running || step == HcStep::End

@@ -237,33 +237,28 @@ impl HeardWords {
     }
 
     #[tactic(auto, using(crate::proofs::Wholes::pid_named_again))]
-    fn packet(pid: Pid, packet: &[u8]) -> HeardWords
+    fn set_packet(&mut self, pid: Pid, packet: &[u8])
         requires { length packet.now ≤ 1024 }
-        ensures { heard_in result ≡ Heard.Bytes pid packet.now }
+        ensures { heard_in self.new ≡ Heard.Bytes pid packet.now }
     {
-        let mut bytes = [0; 1024];
-        bytes[..packet.len()].copy_from_slice(packet);
-        HeardWords {
-            kind: 2,
-            pid: pid.bits(),
-            len: packet.len() as u16,
-            bytes,
-        }
+        self.kind = 2;
+        self.pid = pid.bits();
+        self.len = packet.len() as u16;
+        self.bytes[..packet.len()].copy_from_slice(packet);
     }
 
+    /// What was heard, in its place.
     #[tactic(auto, using(crate::proofs::Wholes::pid_named_again))]
-    pub(crate) fn of(reply: &Reply) -> HeardWords
-        ensures { heard_in result ≡ reply.now }
+    pub(crate) fn set(&mut self, reply: &Reply)
+        ensures { heard_in self.new ≡ reply.now }
     {
         match reply {
-            Reply::Silent => Self::nothing(),
-            Reply::Hand(pid) => HeardWords {
-                kind: 1,
-                pid: pid.bits(),
-                len: 0,
-                bytes: [0; 1024],
-            },
-            Reply::Bytes(pid, packet) => Self::packet(*pid, packet.as_slice()),
+            Reply::Silent => self.kind = 0,
+            Reply::Hand(pid) => {
+                self.kind = 1;
+                self.pid = pid.bits();
+            }
+            Reply::Bytes(pid, packet) => self.set_packet(*pid, packet.as_slice()),
         }
     }
 }

@@ -94,7 +94,7 @@ pub fn step(whole: &mut Whole, words: &mut [u32], desk: &mut Desk<'_, '_>) -> St
     if desk.is_asked() {
         return Stepped::WantsBus;
     }
-    *whole = Whole::of(&controller, &regs);
+    whole.set(&controller, &regs);
     Stepped::Event(kind)
 }
 

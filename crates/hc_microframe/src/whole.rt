@@ -9,7 +9,7 @@ ghost use Rattle.hc_microframe.specs.Numbers.{heard_in, hand_in, cursor_in, held
 use crate::numbers::{
     HeardWords, ItdWords, QueueWords, SitdWords, mode_number, mode_of, part_number, part_of,
 };
-use crate::state::{State, state_of};
+use crate::state::{State, reset, state_of};
 use async_walk::{AsyncState, Cursor, HeldParts, RingParts};
 use hc_core::Controller;
 use link_words::{read, write};
@@ -156,33 +156,41 @@ impl FrameWords {
     }
 
     #[tactic(auto, using(link_words::proofs::LinkLaws::link_laws))]
-    fn numbers(parts: &FrameParts, reply: &Reply, received: &[u8]) -> FrameWords
+    fn set_numbers(&mut self, parts: &FrameParts, reply: &Reply, received: &[u8])
         requires cursor { IsAligned parts.now.cursor }
         requires room { length received.now ≤ 3072 }
-        ensures parts { frame_parts_in result ≡ parts.now }
-        ensures heard { heard_in result.heard ≡ reply.now }
-        ensures got { take result.got_len result.got ≡ received.now }
+        ensures parts { frame_parts_in self.new ≡ parts.now }
+        ensures heard { heard_in self.new.heard ≡ reply.now }
+        ensures got { take self.new.got_len self.new.got ≡ received.now }
     {
-        let mut got = [0; 3072];
-        got[..received.len()].copy_from_slice(received);
-        FrameWords {
-            left: parts.left.0,
-            cursor: write(parts.cursor),
-            index: parts.index,
-            got_len: received.len() as u16,
-            hand: HandWords::of(&parts.hand),
-            heard: HeardWords::of(reply),
-            got,
-        }
+        self.left = parts.left.0;
+        self.cursor = write(parts.cursor);
+        self.index = parts.index;
+        self.got_len = received.len() as u16;
+        self.hand = HandWords::of(&parts.hand);
+        self.heard.set(reply);
+        self.got[..received.len()].copy_from_slice(received);
     }
 
-    /// The numbers of a walk.
+    /// The numbers of a walk, in their places.
     #[tactic(auto, using(crate::proofs::Wholes::frame_whole))]
-    pub(crate) fn of(walk: &PeriodicState) -> FrameWords
-        ensures { frame_in result ≡ Some walk.now }
+    fn set(&mut self, walk: &PeriodicState)
+        ensures { frame_in self.new ≡ Some walk.now }
     {
         let parts = walk.parts();
-        Self::numbers(&parts, walk.reply(), walk.got())
+        self.set_numbers(&parts, walk.reply(), walk.got());
+    }
+
+    fn zero() -> FrameWords {
+        FrameWords {
+            left: 0,
+            cursor: 0,
+            index: 0,
+            got_len: 0,
+            hand: HandWords::none(),
+            heard: HeardWords::nothing(),
+            got: [0; 3072],
+        }
     }
 }
 
@@ -237,7 +245,9 @@ impl RingWords {
     pub(crate) fn new() -> RingWords
         ensures { ring_in result ≡ Some new_walk }
     {
-        Self::of(&AsyncState::new())
+        let mut words = Self::zero();
+        words.set(&AsyncState::new());
+        words
     }
 
     /// The walk that has these numbers; None where none has.
@@ -254,32 +264,43 @@ impl RingWords {
         AsyncState::from_parts(&parts, self.heard.reply())
     }
 
-    fn numbers(parts: &RingParts, reply: &Reply) -> RingWords
+    fn set_numbers(&mut self, parts: &RingParts, reply: &Reply)
         requires { IsCursor parts.now.cursor }
-        ensures parts { ring_parts_in result ≡ parts.now }
-        ensures heard { heard_in result.heard ≡ reply.now }
+        ensures parts { ring_parts_in self.new ≡ parts.now }
+        ensures heard { heard_in self.new.heard ≡ reply.now }
     {
         let (begun, cursor) = cursor_numbers(parts.cursor);
         let (holds, queue) = held_numbers(&parts.held);
-        RingWords {
-            left: parts.left.0,
-            cursor,
-            begun,
-            mode: mode_number(parts.mode),
-            first: flag_number(parts.first),
-            holds,
-            queue,
-            heard: HeardWords::of(reply),
-        }
+        self.left = parts.left.0;
+        self.cursor = cursor;
+        self.begun = begun;
+        self.mode = mode_number(parts.mode);
+        self.first = flag_number(parts.first);
+        self.holds = holds;
+        self.queue = queue;
+        self.heard.set(reply);
     }
 
-    /// The numbers of a walk.
+    /// The numbers of a walk, in their places.
     #[tactic(auto, using(crate::proofs::Wholes::ring_whole))]
-    pub(crate) fn of(walk: &AsyncState) -> RingWords
-        ensures { ring_in result ≡ Some walk.now }
+    fn set(&mut self, walk: &AsyncState)
+        ensures { ring_in self.new ≡ Some walk.now }
     {
         let parts = walk.parts();
-        Self::numbers(&parts, walk.reply())
+        self.set_numbers(&parts, walk.reply());
+    }
+
+    fn zero() -> RingWords {
+        RingWords {
+            left: 0,
+            cursor: 0,
+            begun: 0,
+            mode: 0,
+            first: 0,
+            holds: 0,
+            queue: QueueWords::none(),
+            heard: HeardWords::nothing(),
+        }
     }
 }
 
@@ -308,17 +329,15 @@ impl Whole {
         self.ring = new.ring;
     }
 
-    /// The numbers of a controller and its registers.
-    pub(crate) fn of(controller: &Controller, regs: &Registers) -> Whole
-        ensures control { control_of result ≡ Some controller.now }
-        ensures registers { result.registers ≡ shown regs.now 0 }
+    /// The numbers of a controller and its registers, in their places.
+    pub(crate) fn set(&mut self, controller: &Controller, regs: &Registers)
+        ensures control { control_of self.new ≡ Some controller.now }
+        ensures registers { self.new.registers ≡ shown regs.now 0 }
     {
-        Whole {
-            registers: state_of(regs, 0),
-            part: part_number(controller.part()),
-            frame: FrameWords::of(controller.frame()),
-            ring: RingWords::of(controller.walk()),
-        }
+        self.registers = state_of(regs, 0);
+        self.part = part_number(controller.part());
+        self.frame.set(controller.frame());
+        self.ring.set(controller.walk());
     }
 }
 
@@ -327,5 +346,12 @@ pub fn reset_whole() -> Whole
     ensures control { control_of result ≡ Some new_control }
     ensures registers { result.registers ≡ shown reset_file 0 }
 {
-    Whole::of(&Controller::new(), &Registers::reset())
+    let mut whole = Whole {
+        registers: reset(),
+        part: 0,
+        frame: FrameWords::zero(),
+        ring: RingWords::zero(),
+    };
+    whole.set(&Controller::new(), &Registers::reset());
+    whole
 }

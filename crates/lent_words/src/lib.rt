@@ -2,5 +2,6 @@
 #![tactic(auto)]
 
 mod ram;
+pub mod worked;
 
 pub use ram::{Lender, Loan, Ram};

@@ -6,9 +6,9 @@ pub returns-clause-event : goal.returns-clause-event
 returns-clause-event c k same =
     is_stepped c.args.whole.now c.args.words.now c.of-loan.result.words.now c.args.desk.now c.step_in-kind.result k c.controller.result
     c.in-Some.controller c.registers_of-regs.result c.step_in-kind.new.controller c.step_in-kind.new.regs
-    c.step_in-kind.new.loan.words.now c.step_in-kind.new.desk c.is_asked.result c.of.result _
+    c.step_in-kind.new.loan.words.now c.step_in-kind.new.desk c.is_asked.result c.set.new.self _
     c.controller.ensures c.in-Some.is c.registers_of-regs.ensures c.of-loan.ensures.words c.step_in-kind.ensures.kind
-    c.step_in-kind.ensures.row c.is_asked.ensures c.if-is_asked.false c.of.ensures.registers c.of.ensures.control (search rules) same
+    c.step_in-kind.ensures.row c.is_asked.ensures c.if-is_asked.false c.set.ensures.registers c.set.ensures.control (search rules) same
 
 pub returns-clause-stays : goal.returns-clause-stays
 returns-clause-stays c other = absurd (other c.step_in-kind.result refl)
