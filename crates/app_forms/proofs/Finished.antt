@@ -26,7 +26,7 @@ module _ (runs : Script → Standing → Type 0) where
   unrefused Image input bytes sound r = none_some _ (sym sound ∙ r.first)
   unrefused Check input bytes sound r = false≢true (sym r.is ∙ sound)
   unrefused Dump input bytes sound r = none_some _ (sym sound ∙ r.refused)
-  unrefused (Load n) input bytes sound r = none_some _ (sym sound ∙ r.first)
+  unrefused (Load n) input bytes sound r = r
 
   module _ (form : Form) (input : List ℕ) (faults : Faults) (old new : Option (List ℕ)) (sound : IsSound form input)
       (reads : Rose faults.read_before faults.read_after → ⊥) (writes : Rose faults.written_before faults.written_after → ⊥) where
@@ -75,5 +75,5 @@ module _ (runs : Script → Standing → Type 0) where
       finishes left said loads = record {
         read = read_by left said;
         drawn = λ n input are sound reads writes.
-            finished_as (Load n) input faults old new sound reads writes status (not_words (Load n) are) read write (loads n input are);
+            finished_as (Load n) input faults old new sound reads writes status (not_words (Load n) are) read write (loads n input are).1;
       }

@@ -1,5 +1,7 @@
 pub mod Checked
+pub mod Ended
 pub mod Finished
+pub mod Loads
 pub mod Runs
 pub mod Whole
 pub mod Words

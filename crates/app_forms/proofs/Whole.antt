@@ -81,4 +81,5 @@ module _ (runs whole : Script → Standing → Type 0) (follows : (text : List �
   program_follows words Memory input old new said = formed_follows words Memory input old new said
 
   pub load_follows : (words : List (List ℕ)) (status : Status) (old new : Option (List ℕ)) → IsLoad runs words status old new → IsLoad whole words status old new
-  load_follows words status old new said = λ n input are. answer_follows (Load n) status input old new (said n input are)
+  load_follows words status old new said = λ n input are.
+      let answer = said n input are in (answer.0, answer_follows (Load n) status input old new answer.1)

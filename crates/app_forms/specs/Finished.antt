@@ -1,5 +1,5 @@
 -- When the program answers Ok: its words have a form, its input is one that the form reads, and neither source nor sink fails.
---     IsSound form input             the form reads this: a script, an image, or either; `load` reads nothing, and its own text is a script
+--     IsSound form input             the form reads this: a script, an image, or either; `load` reads nothing
 --     IsFinished .. status ..        it ends with Ok and the whole output, or for want of memory, with nothing written
 --     FinishesForm ..               so it does where the input is sound, and neither count of faults rose
 --     Finishes ..                   of the form that the words have, where the source tells its bytes, and of `load` anyway
@@ -9,7 +9,6 @@ use Rattle.usb_base.specs.Outside.{Rose}
 use Rattle.script_types.specs.declared.scripts.Script.{Script}
 use Rattle.script_text.specs.Faults.{first_fault, is_image}
 use Rattle.bus_world.specs.World.{Standing}
-use Rattle.script_load.specs.Load.{load_text}
 use Rattle.image_codec.specs.Image.{image_fault}
 use Rattle.app_ends.specs.Input.{input_of}
 use Rattle.app_ends.specs.declared.status.Status.{Status}
@@ -24,7 +23,7 @@ IsSound Run input = first_fault input ≡ None
 IsSound Image input = first_fault input ≡ None
 IsSound Check input = is_sound_as (is_image input) input ≡ true
 IsSound Dump input = image_fault input ≡ None
-IsSound (Load n) input = first_fault (load_text n) ≡ None
+IsSound (Load n) input = Unit {0}
 
 pub data IsFinished (runs : Script → Standing → Type 0) (form : Form) (input : List ℕ) (old new : Option (List ℕ)) : Status → Type 0 where
   whole : WritesAll runs form input Ok old new → IsFinished runs form input old new Ok

@@ -2,6 +2,7 @@
 -- What comes of a script is said with a relation `runs`: which worlds are those after the run of a script.
 --     Gives runs form input status bytes        the whole output: an end with its bytes
 --     IsAnswer runs form status input old new   how what is written follows from how the program ended
+--     IsLoadEnd status                          how `load` can end
 --     IsProgram runs words status ..            the same by the words
 --     Leaves words status xs after              what is left of a source that had xs
 use Rattle.std.specs.Prelude.{◌≡◌, ℕ, Bool, true, false, List, [], ◌∷◌, Option, None, Some, is_none, codes}
@@ -104,7 +105,7 @@ Gives runs Check input Refused bytes = Checks input false bytes
 Gives runs Dump input Ok bytes = ShowsImage input bytes
 Gives runs Dump input Refused bytes = RefusesImage input bytes
 Gives runs (Load n) input Ok bytes = SummarizesLoad runs n bytes
-Gives runs (Load n) input Refused bytes = RefusesScript (load_text n) bytes
+Gives runs (Load n) input Refused bytes = ⊥
 Gives runs form input Words bytes = ⊥
 Gives runs form input ReadFault bytes = ⊥
 Gives runs form input WriteFault bytes = ⊥
@@ -129,9 +130,19 @@ abbrev pub IsProgram : (Script → Standing → Type 0) → List (List ℕ) → 
 IsProgram runs words Words input old new = Keeps old new
 IsProgram runs words status input old new = (form : Form) × AreWordsOf words form × IsAnswer runs form status input old new
 
+-- the text of each number is a script, and `load` reads nothing
+abbrev pub IsLoadEnd : Status → Type 0
+IsLoadEnd Ok = Unit {0}
+IsLoadEnd WriteFault = Unit {0}
+IsLoadEnd Memory = Unit {0}
+IsLoadEnd Words = ⊥
+IsLoadEnd Refused = ⊥
+IsLoadEnd ReadFault = ⊥
+
 -- The answer of the program to the words of `load`, whatever is known of what it could read.
 abbrev pub IsLoad : (Script → Standing → Type 0) → List (List ℕ) → Status → Option (List ℕ) → Option (List ℕ) → Type 0
-IsLoad runs words status old new = (n : ℕ) (input : List ℕ) → AreWordsOf words (Load n) → IsAnswer runs (Load n) status input old new
+IsLoad runs words status old new =
+    (n : ℕ) (input : List ℕ) → AreWordsOf words (Load n) → IsLoadEnd status × IsAnswer runs (Load n) status input old new
 
 -- ---- what is left of a source that had xs
 

@@ -10,6 +10,7 @@ pub mod laws;
 mod loading;
 mod refusing;
 mod running;
+pub mod worked;
 
 pub use checking::check;
 pub use dumping::dump;

@@ -1,9 +1,9 @@
-ghost use Rattle.std.specs.Prelude.{◌≡◌, ◌≢◌, ℕ, List, Some};
-ghost use Rattle.script_text.specs.Faults.{Spells, first_fault};
+ghost use Rattle.std.specs.Prelude.{◌≡◌, ◌≢◌, ℕ, List};
+ghost use Rattle.script_text.specs.Faults.{Spells};
 ghost use Rattle.script_fits.specs.Fits.{IsFit};
 ghost use Rattle.script_load.specs.Load.{load_text};
 ghost use Rattle.app_ends.specs.Ends.{IsWriteFault, WritesNothing};
-ghost use Rattle.app_forms.specs.Output.{IsAnswer, RunOf};
+ghost use Rattle.app_forms.specs.Output.{IsAnswer, IsLoadEnd, RunOf};
 ghost use Rattle.bus_world.specs.Runs.{IsRunOf};
 
 use crate::form::Form;
@@ -13,7 +13,7 @@ use bus_world::World;
 use report_load::{print_summary, summary_of};
 use script_fits::read;
 use script_load::load_text;
-use script_text::{TextError, TextWhy, print_fault};
+use script_text::TextError;
 use script_types::Script;
 use std::alloc::Global;
 use usb_base::Sink;
@@ -23,6 +23,7 @@ fn summarize<K: Sink>(n: u32, world: &World, sink: &mut K) -> Status
     requires { RunOf IsRunOf (load_text n) world.now }
     ensures answer { (input : List ℕ) → IsAnswer IsRunOf (Form.Load n) result input (K.written sink.old) (K.written sink.new) }
     ensures end { (result ≢ Status.Words) × (result ≢ Status.ReadFault) }
+    ensures load { IsLoadEnd result }
     ensures nothing { WritesNothing result → sink.new ≡ sink.old }
     ensures fault { IsWriteFault result (K.faults sink.old) (K.faults sink.new) }
 {
@@ -38,6 +39,7 @@ fn load_world<K: Sink>(alloc: Global, n: u32, script: &Script, sink: &mut K) -> 
     requires fits { IsFit script.now }
     ensures answer { (input : List ℕ) → IsAnswer IsRunOf (Form.Load n) result input (K.written sink.old) (K.written sink.new) }
     ensures end { (result ≢ Status.Words) × (result ≢ Status.ReadFault) }
+    ensures load { IsLoadEnd result }
     ensures nothing { WritesNothing result → sink.new ≡ sink.old }
     ensures fault { IsWriteFault result (K.faults sink.old) (K.faults sink.new) }
 {
@@ -52,6 +54,7 @@ fn load_world<K: Sink>(alloc: Global, n: u32, script: &Script, sink: &mut K) -> 
 pub fn load<K: Sink>(alloc: Global, n: u32, sink: &mut K) -> Status
     ensures answer { (input : List ℕ) → IsAnswer IsRunOf (Form.Load n) result input (K.written sink.old) (K.written sink.new) }
     ensures end { (result ≢ Status.Words) × (result ≢ Status.ReadFault) }
+    ensures load { IsLoadEnd result }
     ensures nothing { WritesNothing result → sink.new ≡ sink.old }
     ensures fault { IsWriteFault result (K.faults sink.old) (K.faults sink.new) }
 {
@@ -62,31 +65,18 @@ pub fn load<K: Sink>(alloc: Global, n: u32, sink: &mut K) -> Status
     load_script(alloc, n, text.as_slice(), sink)
 }
 
-/// Reads the text of the load script of a number, runs it and prints what its report counts.
+/// Reads the text of the load script of a number, which has no fault, runs it and prints what its report counts.
 fn load_script<K: Sink>(alloc: Global, n: u32, text: &[u8], sink: &mut K) -> Status
     requires { text.now ≡ load_text n }
     ensures answer { (input : List ℕ) → IsAnswer IsRunOf (Form.Load n) result input (K.written sink.old) (K.written sink.new) }
     ensures end { (result ≢ Status.Words) × (result ≢ Status.ReadFault) }
+    ensures load { IsLoadEnd result }
     ensures nothing { WritesNothing result → sink.new ≡ sink.old }
     ensures fault { IsWriteFault result (K.faults sink.old) (K.faults sink.new) }
 {
     match read(alloc, text) {
         Ok(script) => load_world(alloc, n, &script, sink),
-        Err(TextError::Fault { line, why }) => refuse_load(n, line, why, sink),
+        Err(TextError::Fault { .. }) => unreachable!(),
         Err(TextError::Memory(_)) => Status::Memory,
-    }
-}
-
-/// Refuses a load script, by the line of its first fault.
-fn refuse_load<K: Sink>(n: u32, line: u32, why: TextWhy, sink: &mut K) -> Status
-    requires { first_fault (load_text n) ≡ Some (line, why) }
-    ensures answer { (input : List ℕ) → IsAnswer IsRunOf (Form.Load n) result input (K.written sink.old) (K.written sink.new) }
-    ensures end { (result ≢ Status.Words) × (result ≢ Status.ReadFault) }
-    ensures nothing { WritesNothing result → sink.new ≡ sink.old }
-    ensures fault { IsWriteFault result (K.faults sink.old) (K.faults sink.new) }
-{
-    match print_fault(line, why, sink) {
-        Ok(()) => Status::Refused,
-        Err(_) => Status::WriteFault,
     }
 }

@@ -4,7 +4,7 @@ use Rattle.app_ends.specs.Ends.{IsLeft}
 use Rattle.app_ends.specs.Input.{input_of}
 use Rattle.app_forms.specs.Form.{AreWordsOf}
 use Rattle.bus_world.specs.Runs.{IsRunOf}
-use Rattle.app_forms.specs.Output.{IsAnswer, IsLoad, IsProgram, LeavesAs, Leaves}
+use Rattle.app_forms.specs.Output.{IsAnswer, IsLoad, IsLoadEnd, IsProgram, LeavesAs, Leaves}
 use Rattle.app_forms.proofs.Words.{loads_once}
 use Rattle.app_forms.specs.declared.form.Form.{Form}
 use Rattle.app_forms.specs.declared.form.Form.TheVariants.{Load}
@@ -74,7 +74,7 @@ leaves_all (Some xs) words n status are other = leaves_of words (Load n) status 
 -- ---- the form `load`
 
 -- what it answers to every input is what the program answers to its words
-pub load_of : (words : List (List ℕ)) (m : ℕ) (status : Status) (old new : Option (List ℕ)) → AreWordsOf words (Load m)
+pub load_of : (words : List (List ℕ)) (m : ℕ) (status : Status) (old new : Option (List ℕ)) → AreWordsOf words (Load m) → IsLoadEnd status
     → ((input : List ℕ) → IsAnswer IsRunOf (Load m) status input old new) → IsLoad IsRunOf words status old new
-load_of words m status old new are answer =
-    λ n input other. subst (λ k. IsAnswer IsRunOf (Load k) status input old new) (loads_once words m n are other) (answer input)
+load_of words m status old new are end answer =
+    λ n input other. (end, subst (λ k. IsAnswer IsRunOf (Load k) status input old new) (loads_once words m n are other) (answer input))

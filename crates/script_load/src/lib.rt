@@ -5,6 +5,7 @@
 #![tactic(auto)]
 
 mod draws;
+pub mod laws;
 mod lines;
 mod parts;
 mod text;

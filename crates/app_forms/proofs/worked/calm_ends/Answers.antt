@@ -1,0 +1,12 @@
+use Rattle.bus_world.specs.Runs.{IsRunOf}
+use Rattle.app_forms.proofs.Ended.{memory_may_lack, nothing_is_refused, nothing_is_written}
+use Rattle.app_forms.proofs.worked.calm_ends.Goals as goal
+
+pub returns-clause-memory : goal.returns-clause-memory
+returns-clause-memory c = memory_may_lack IsRunOf
+
+pub returns-clause-refused : goal.returns-clause-refused
+returns-clause-refused c = λ h. nothing_is_refused IsRunOf h
+
+pub returns-clause-written : goal.returns-clause-written
+returns-clause-written c = λ h. nothing_is_written IsRunOf h
