@@ -38,3 +38,14 @@ pub mod Heard
 pub mod Rests
 pub mod Told
 pub mod Pending
+pub mod Plans
+pub mod Watched
+pub mod KeepsUp
+pub mod Answered
+pub mod HubPlans
+pub mod Gaps
+pub mod Pipelines
+pub mod Translators
+pub mod Behind
+pub mod Results
+pub mod Places

@@ -4,11 +4,9 @@ use Rattle.script_fits.proofs.Texts.{spelled_fits}
 use Rattle.bus_world.specs.Budgets.{AdmitsThroughout}
 use Rattle.bus_world.proofs.Budgeted.{script_admits}
 use Rattle.claims_world.specs.Lent.{KeepsToLentThroughout}
-use Rattle.law_world.proofs.lemmas.memory.lemmas.worlds_keep_to_lent.Moments.{each_moment_keeps_to_lent_blocks}
+use Rattle.law_reports.proofs.HandedOn.{each_moment_keeps_to_lent_blocks, each_moment_owns_its_blocks, script_scheduled}
 use Rattle.claims_world.specs.Owned.{OwnsItsBlocksThroughout}
-use Rattle.law_world.proofs.lemmas.memory.lemmas.owned_blocks.Worlds.{each_moment_owns_its_blocks}
 use Rattle.claims_world.specs.Schedule.{KeepsScheduleThroughout}
-use Rattle.law_world.proofs.lemmas.memory.lemmas.world_frames.Moments.{script_scheduled}
 use Rattle.app_forms.specs.Scripts.{OfEachScript}
 use Rattle.ehci_cli.proofs.Each.{of_each}
 

@@ -2,6 +2,7 @@ pub mod Each
 pub mod Admitted
 pub mod Streams
 pub mod Memory
+pub mod Places
 pub mod Requests
 pub mod Visits
 pub mod Whole

@@ -7,12 +7,8 @@ use Rattle.claims_world.specs.Links.{KeepsLinks}
 use Rattle.claims_world.specs.Reach.{ReachesLentThroughout}
 use Rattle.claims_world.specs.Owners.{KeepsToOwnersThroughout}
 use Rattle.claims_world.specs.Releases.{GivesBackLast, StaysUntouched}
-use Rattle.law_world.proofs.lemmas.memory.Together.{texts_keep_memory}
-use Rattle.law_world.proofs.lemmas.memory.ReachMoments.{texts_reach_lent}
-use Rattle.law_world.proofs.lemmas.memory.OwnMoments.{texts_keep_to_owners}
-use Rattle.law_world.proofs.lemmas.memory.LetGo.{scripts_give_back_last}
-use Rattle.law_world.proofs.lemmas.memory.LinksHeld.{texts_keep_links}
-use Rattle.law_world.proofs.lemmas.memory.Untouched.{scripts_leave_what_is_back}
+use Rattle.law_reports.proofs.HandedOn.{texts_keep_memory, texts_reach_lent, texts_keep_to_owners, scripts_give_back_last}
+use Rattle.law_reports.proofs.HandedOn.{texts_keep_links, scripts_leave_what_is_back}
 use Rattle.script_fits.proofs.Texts.{spelled_fits}
 use Rattle.app_forms.specs.Scripts.{OfEachScript}
 use Rattle.ehci_cli.proofs.Each.{of_each}

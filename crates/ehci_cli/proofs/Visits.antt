@@ -3,14 +3,15 @@ use Rattle.std.proofs.Common.{ℕ, List, Option}
 use Rattle.claims_world.specs.Visits.{KeepsVisits}
 use Rattle.claims_world.specs.WithinLoad.{PaysWithinLoad}
 use Rattle.claims_world.specs.InTime.{ArriveInTime}
-use Rattle.law_microframes.proofs.lemmas.visits.Together.{texts_keep_visits}
+use Rattle.law_reports.proofs.HandedOn.{texts_keep_visits, texts_repeat_after_losses, texts_keep_translators, texts_keep_due}
+use Rattle.law_reports.proofs.HandedOn.{texts_serve_slots, texts_serve_sitds, texts_pay_within_load, texts_are_in_time}
+use Rattle.law_reports.proofs.HandedOn.{texts_end_microframes}
 use Rattle.claims_world.specs.Due.{KeepsDue}
 use Rattle.claims_world.specs.DueAtBegin.{DueAtBeginIsDone}
 use Rattle.law_reports.proofs.lemmas.due_at_begin.Moments.{texts_do_what_is_due_at_begin}
 use Rattle.claims_world.specs.Losses.{RepeatAfterLosses}
-use Rattle.law_microframes.proofs.lemmas.due.lemmas.repeats.RepeatMoments.{texts_repeat_after_losses}
-use Rattle.claims_translators.specs.Translators.{KeepsTranslators}
-use Rattle.law_microframes.proofs.lemmas.translators.TurnsTexts.{texts_keep_translators}
+use Rattle.claims_world.specs.Translators.{KeepsTranslators}
+use Rattle.claims_world.specs.Results.{KeepsAnswers}
 use Rattle.claims_world.specs.Slots.{SlotsAreDone}
 use Rattle.claims_world.specs.SlotsAtBegin.{SlotsAtBeginAreDone}
 use Rattle.claims_world.specs.Sitds.{SitdsAreServed}
@@ -19,14 +20,10 @@ use Rattle.claims_world.specs.SplitsAtBegin.{KeepsSplits}
 use Rattle.law_reports.proofs.lemmas.due_at_begin.SitdMoments.{texts_serve_sitds_at_begin}
 use Rattle.law_reports.proofs.lemmas.due_at_begin.SlotMoments.{texts_do_slots_at_begin}
 use Rattle.law_reports.proofs.lemmas.due_at_begin.SplitDue.{texts_make_splits}
+use Rattle.law_reports.proofs.lemmas.due_at_begin.ResultDue.{texts_take_results}
 use Rattle.claims_world.specs.Unfinished.{KeepsToWork}
-use Rattle.law_microframes.proofs.lemmas.due.Together.{texts_keep_due}
-use Rattle.law_microframes.proofs.lemmas.due.lemmas.slots.Moments.{texts_serve_slots}
-use Rattle.law_microframes.proofs.lemmas.due.lemmas.sitds.Moments.{texts_serve_sitds}
 use Rattle.law_reports.proofs.lemmas.queues.Copies.{texts_keep_to_work}
-use Rattle.law_microframes.proofs.lemmas.time.PaymentTimes.{texts_pay_within_load, texts_are_in_time}
 use Rattle.claims_world.specs.Microframes.{MicroframesEnd}
-use Rattle.law_microframes.proofs.lemmas.time.TurnTexts.{texts_end_microframes}
 use Rattle.app_forms.specs.Scripts.{OfEachScript}
 use Rattle.ehci_cli.proofs.Each.{of_each}
 
@@ -65,6 +62,9 @@ source_does_slots_at_begin = of_each SlotsAtBeginAreDone texts_do_slots_at_begin
 
 pub source_makes_splits : (words : List (List ℕ)) (left : Option (List ℕ)) → OfEachScript KeepsSplits words left
 source_makes_splits = of_each KeepsSplits texts_make_splits
+
+pub source_takes_results : (words : List (List ℕ)) (left : Option (List ℕ)) → OfEachScript KeepsAnswers words left
+source_takes_results = of_each KeepsAnswers texts_take_results
 
 pub source_serves_sitds : (words : List (List ℕ)) (left : Option (List ℕ)) → OfEachScript SitdsAreServed words left
 source_serves_sitds = of_each SitdsAreServed texts_serve_sitds

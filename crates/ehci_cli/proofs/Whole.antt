@@ -5,7 +5,7 @@ use Rattle.script_text.specs.Faults.{Spells}
 use Rattle.bus_world.specs.World.{Standing}
 use Rattle.bus_world.specs.Opening.{opening_world}
 use Rattle.bus_world.specs.Orders.{IsRun, orders_of}
-use Rattle.law_microframes.proofs.lemmas.time.TurnTexts.{texts_carry_out_all}
+use Rattle.law_reports.proofs.HandedOn.{texts_carry_out_all}
 use Rattle.app_ends.specs.Input.{input_of}
 use Rattle.app_ends.specs.declared.status.Status.{Status}
 use Rattle.bus_world.specs.Runs.{IsRunOf, IsWholeRunOf}

@@ -20,7 +20,8 @@ ghost use Rattle.claims_world.specs.InTime.{ArriveInTime};
 ghost use Rattle.claims_world.specs.Due.{KeepsDue};
 ghost use Rattle.claims_world.specs.DueAtBegin.{DueAtBeginIsDone};
 ghost use Rattle.claims_world.specs.Losses.{RepeatAfterLosses};
-ghost use Rattle.claims_translators.specs.Translators.{KeepsTranslators};
+ghost use Rattle.claims_world.specs.Translators.{KeepsTranslators};
+ghost use Rattle.claims_world.specs.Results.{KeepsAnswers};
 ghost use Rattle.claims_world.specs.Slots.{SlotsAreDone};
 ghost use Rattle.claims_world.specs.Sitds.{SitdsAreServed};
 ghost use Rattle.claims_world.specs.SitdsAtBegin.{SitdsAtBeginAreServed};
@@ -39,6 +40,10 @@ ghost use Rattle.claims_world.specs.Pending.{PendingIsCounted};
 ghost use Rattle.claims_world.specs.Refused.{CommandsHaveCauses};
 ghost use Rattle.claims_world.specs.Rests.{RestsThroughout};
 ghost use Rattle.claims_world.specs.Told.{LinesHaveReasons};
+ghost use Rattle.claims_world.specs.Places.{OpensHavePlaces};
+ghost use Rattle.script_load.specs.Load.{load_text};
+ghost use Rattle.script_text.specs.Faults.{Spells};
+ghost use Rattle.script_types.specs.declared.scripts.Script.{Script};
 
 use app_ends::Status;
 use app_forms::Form;
@@ -60,7 +65,7 @@ use usb_base::{Sink, Source};
 /// - `Memory` only before the first write.
 ///
 /// Where the words have a form, the input is one that it reads, and neither count of faults rises, it ends with `Ok` and the whole output
-/// is written, or with `Memory`.
+/// is written, or with `Memory`. The script that is drawn for `load` is always one, so `load` ends with `Ok`, `WriteFault` or `Memory`.
 ///
 /// What the clauses after `output` say is said of the table machine over the script that the input spells, and, for `load`, over the
 /// one that is drawn from the number; `output` and `load` say that what is printed is the report of its whole run, or what that counts.
@@ -123,7 +128,9 @@ use usb_base::{Sink, Source};
 /// no more than 4 microseconds went for complete-splits made again. So it was of each of high speed for which all this stood as the
 /// microframe began, whatever the walk came to before, but of one of which a cancel was accepted since. So is each slot of an iTD to
 /// which the walk came while it was active: it is written back in its microframe; and each that was active as the microframe began, in an
-/// iTD that stays linked. And at each moment the queue head of a bulk or
+/// iTD that stays linked. Of an interrupt endpoint below a hub of which a complete-split was due as the microframe began, where neither it
+/// nor its answer is lost, the host heard what its translator had for it then; data that fit moved, and so did what was acknowledged,
+/// unless a cancel of it was accepted since. And at each moment the queue head of a bulk or
 /// interrupt endpoint that goes on and isn't halted, with a transfer that is stored and isn't done, works on an active qTD or goes on to
 /// one; so does its copy in the hand of either walk.
 ///
@@ -131,25 +138,26 @@ use usb_base::{Sink, Source};
 /// stream, each once and in order, and nothing follows its end; those that it tells of each such OUT endpoint begin what its device took,
 /// and these begin what was put to it: after the run, and at each moment of it, when the puts are those that weren't refused so far;
 /// whatever is lost, damaged or held, and whatever else is asked and answers. After the run these are all its streams at high speed.
-/// The same holds of the bytes of each bulk OUT endpoint behind a hub of the script, whatever is asked of the hub; but its device may take
-/// more behind the line that tells its end.
+/// The same holds of the bytes of each bulk and interrupt OUT endpoint behind a hub of the script, whatever is asked of the hub; but its
+/// device may take more behind the line that tells its end.
 /// The bytes that the report tells of each bulk IN endpoint behind a hub of the script begin its stream, too, and nothing follows its end,
 /// at each moment before which the hub never heard as its last request that it clears a buffer or resets a translator, and after a run in
-/// which it never did.
+/// which it never did: so throughout and after the run of a script none of whose `control` lines to the hub is such a request.
 ///
 /// Whatever the script opens, no line follows the one that tells the end of a bulk, interrupt or isochronous endpoint, and nothing of it is
 /// pending then, at each moment and after the run. No line tells a missed microframe of an endpoint at high speed.
 /// Where no `fate` loses or damages a packet between the controller and a hub or a device at high speed, and no interrupt endpoint at high
 /// speed answers with NYET, no line tells `halt error` of an endpoint at high speed, whatever the script holds, cancels and asks of hubs.
 ///
-/// Where the script opens high-speed bulk and control endpoints only, at each moment each device but a hub acted at most once on each
-/// control request, and only on its setup bytes; of an endpoint that isn't cancelled the report tells of its requests in their order: a
-/// request that is done was acted on exactly once, and the bytes told of it are those of its data; those of one that halted begin its
-/// data; and `acted` is told as the number of requests that were acted on. After the run these are all its requests.
+/// Whatever the script opens, at each moment each device but a hub acted at most once on each request of its control endpoint at high
+/// speed, and only on its setup bytes; of an endpoint that isn't cancelled the report tells of its requests in their order: a request that
+/// is done was acted on exactly once, and the bytes told of it are those of its data; those of one that halted begin its data; and `acted`
+/// is told as the number of requests that were acted on. After the run these are all its requests.
 ///
 /// Each command of a script is refused for the first cause that stands, of busy, no endpoint, closed, already open, too long, no
 /// placement and no blocks, and its line tells this one; where none stands it is accepted, and adds what it asks for: an endpoint, a
-/// transfer whose qTDs have just its bytes, isochronous transfers, or the end of its endpoint. Each ask of the controller is heard as the
+/// transfer whose qTDs have just its bytes, isochronous transfers, or the end of its endpoint. None of the endpoints of the script that is
+/// drawn for `load` is refused for want of a placement. Each ask of the controller is heard as the
 /// script's lines on lost packets, its holds and the ports of its hubs say: by its endpoint alone, or by none; and its endpoints, and no
 /// fewer, stand on the bus.
 ///
@@ -195,6 +203,7 @@ pub fn ehci<S: Source, K: Sink>(
     ensures slots { OfEachScript SlotsAreDone (map string_bytes words.now) (S.left source.old) }
     ensures slots_at_begin { OfEachScript SlotsAtBeginAreDone (map string_bytes words.now) (S.left source.old) }
     ensures splits_at_begin { OfEachScript KeepsSplits (map string_bytes words.now) (S.left source.old) }
+    ensures results { OfEachScript KeepsAnswers (map string_bytes words.now) (S.left source.old) }
     ensures sitds { OfEachScript SitdsAreServed (map string_bytes words.now) (S.left source.old) }
     ensures sitds_at_begin { OfEachScript SitdsAtBeginAreServed (map string_bytes words.now) (S.left source.old) }
     ensures goes_on { OfEachScript KeepsToWork (map string_bytes words.now) (S.left source.old) }
@@ -204,6 +213,8 @@ pub fn ehci<S: Source, K: Sink>(
     ensures errors { OfEachScript (WhereHeardAbove ErrorsAreBelowThroughout) (map string_bytes words.now) (S.left source.old) }
     ensures requests { OfEachScript KeepsRequests (map string_bytes words.now) (S.left source.old) }
     ensures answers { OfEachScript CommandsHaveCauses (map string_bytes words.now) (S.left source.old) }
+    ensures places { (n : ℕ) → AreWordsOf (map string_bytes words.now) (Form.Load n) → (s : Script) → Spells (load_text n) s
+        → OpensHavePlaces s }
     ensures hears { OfEachScript HearsThroughout (map string_bytes words.now) (S.left source.old) }
     ensures works { OfEachScript RestsThroughout (map string_bytes words.now) (S.left source.old) }
     ensures lines { OfEachScript LinesHaveReasons (map string_bytes words.now) (S.left source.old) }

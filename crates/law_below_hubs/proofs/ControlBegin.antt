@@ -35,7 +35,7 @@ use Rattle.law_below_hubs.specs.Raised.{transacts_below}
 use Rattle.law_below_hubs.specs.RightAsks.{Rightly}
 use Rattle.law_below_hubs.specs.HubsKeys.{HubsHave, AreRightHubs}
 use Rattle.law_below_hubs.specs.SeatedControls.{control_in}
-use Rattle.law_below_hubs.specs.ControlWork.{control_call, control_answer, control_key, IsInTurn, AnswerFits, ControlWorkIsEvents}
+use Rattle.law_below_hubs.specs.ControlWork.{control_call, control_answer, control_key, IsInTurn, AnswerFits, IsWorked, ControlWorkIsEvents}
 use Rattle.law_below_hubs.proofs.RightAsks.{works_rightly}
 use Rattle.law_below_hubs.proofs.Raising.{slice_map}
 use Rattle.law_below_hubs.proofs.HubsWork.{hub_made, none_hub, none_hubs}
@@ -98,6 +98,7 @@ module _ (fixed : Fixed) (e : Endpoint) (dir : Dir) (q : Request) (frindex : ℕ
 
   record HubsTurned (hub place : ℕ) (hs : List HubContent) (floor : Floor) (s : KeySlot) (l : Line) : Type 0 where
     line : Line
+    works : IsWorked e s l line
     slot : KeySlot
     on : On (floor_worked fixed hs floor) line
     has : HubsHave Buffered k hub place (hubs_worked fixed frindex hs floor) slot
@@ -126,6 +127,7 @@ module _ (fixed : Fixed) (e : Endpoint) (dir : Dir) (q : Request) (frindex : ℕ
       let seen : z.slot ≡ z.work.made = z.work.leaves ∙ nothing_shown z.work.made z.work.seen z.work.shows in
       record {
         line = x.line;
+        works = x.worked_so;
         slot = z.slot;
         on = n.on;
         has = (z.has, n.none);
@@ -138,7 +140,7 @@ module _ (fixed : Fixed) (e : Endpoint) (dir : Dir) (q : Request) (frindex : ℕ
       let n = none_hub followed (λ a. a) (λ r. r) fixed k Buffered frindex (IsInTurn k) (ShowsControl fixed e) (control_follows fixed e dir)
       On shows_at on_left h floor l on has.0 are.0 in
       let r = turn_hubs hub place hs (floor_left fixed h floor) s l n.on fits has.1 are.1 in
-      record { line = r.line; slot = r.slot; on = r.on; has = (n.none, r.has); are = (n.are, r.are); run = r.run }
+      record { line = r.line; works = r.works; slot = r.slot; on = r.on; has = (n.none, r.has); are = (n.are, r.are); run = r.run }
 
 -- ---- the law
 
@@ -147,6 +149,7 @@ control_work_is_events e q dir hub place frindex s l u aside w has are fits is =
     let r = turn_hubs w.fixed e dir q frindex u aside hub place w.bus.hubs (floor_of w.bus) s l is fits has are in
     record {
       line = r.line;
+      works = r.works;
       slot = r.slot;
       control = begun_control w.fixed frindex (floor_worked w.fixed w.bus.hubs (floor_of w.bus)).devices e.addr e.num
           (device_of e r.line.window.device) r.on;

@@ -35,7 +35,7 @@ use Rattle.law_translated.proofs.Keys.{same_as_itself}
 use Rattle.law_below_hubs.specs.Raised.{transacts_below}
 use Rattle.law_below_hubs.specs.RightAsks.{Rightly}
 use Rattle.law_below_hubs.specs.SeatedControls.{control_on}
-use Rattle.law_below_hubs.specs.ControlWork.{control_call, control_answer, control_key, IsInTurn, IsFit, AnswerFits}
+use Rattle.law_below_hubs.specs.ControlWork.{control_call, control_answer, control_key, IsInTurn, IsFit, AnswerFits, IsWorked, rests, makes}
 use Rattle.law_below_hubs.proofs.LowBuses.{same_below}
 use Rattle.law_below_hubs.proofs.InFollows.{key_is}
 use Rattle.law_below_hubs.proofs.ControlBuses.{controls_on}
@@ -154,6 +154,8 @@ module _ (fixed : Fixed) (e : Endpoint) (dir : Dir) where
   module _ (q : Request) where
     record WorksSo (l : Line) (a : Taken) (r : Reply) (v : Below) : Type 0 where
       line : Line
+      row : WhoHeard
+      line_is : line ≡ worked e row (control_call a) l
       works_so : Works e q l (control_call a) r line
       shown : Shows v line
 
@@ -168,6 +170,8 @@ module _ (fixed : Fixed) (e : Endpoint) (dir : Dir) where
         ap (λ (b : Bool). who_heard h.losses.sent (has_come answer) h.losses.answer b h.losses.acknowledgement) fit in
         record {
           line = worked e row (control_call a) l;
+          row = row;
+          line_is = refl;
           works_so = record { losses = h.losses; heard = h.heard ∙ ap (λ (x : WhoHeard). asker_hears x answer) same; after = refl };
           shown = record {
             same = same_fixed w v l (classic_of a.ask) a.packet r shows made;
@@ -195,6 +199,7 @@ module _ (fixed : Fixed) (e : Endpoint) (dir : Dir) where
 
     pub record Turned (s : KeySlot) (l : Line) (u : Wait) (aside : Slot Call Reply) (new : KeySlot) (after : Below) : Type 0 where
       pub line : Line
+      pub worked_so : IsWorked e s l line
       pub shown : ShowsControl fixed e after line
       pub run : Run (window_halves e q) Buffered (with_slot (window_halves e q) control_call control_answer l u s aside)
           (with_slot (window_halves e q) control_call control_answer line u new aside)
@@ -211,11 +216,12 @@ module _ (fixed : Fixed) (e : Endpoint) (dir : Dir) where
 
     pub turn : (s : KeySlot) (before : Below) (new : KeySlot) (after : Below) (l : Line) (u : Wait) (aside : Slot Call Reply)
         → KeyTurn Asks Buffered s before new after → IsAskedFor k s → AnswerFits e s l → Shows before l → Turned s l u aside new after
-    turn s before _ _ l u aside turn_rests for_it fits at = record { line = l; shown = at; run = stays _ }
+    turn s before _ _ l u aside turn_rests for_it fits at = record { line = l; worked_so = rests; shown = at; run = stays _ }
     turn s before _ _ l u aside (turn_works a r after is made heard) for_it fits at =
         let z = works_so_by before l a r after (asked s a is for_it) at made (fits_so s a l is fits) in
         record {
           line = z.line;
+          worked_so = subst (IsWorked e s l) (sym z.line_is) (makes a z.row is);
           shown = z.shown;
           run = one _ _ (works (control_call a) r z.line (ap (mapped control_call control_answer) is) z.works_so);
         }
@@ -223,6 +229,7 @@ module _ (fixed : Fixed) (e : Endpoint) (dir : Dir) where
         let z = works_so_by before l a r after (asked s a is for_it) at made (fits_so s a l is fits) in
         record {
           line = z.line;
+          worked_so = subst (IsWorked e s l) (sym z.line_is) (makes a z.row is);
           shown = z.shown;
           run = one _ _ (is_quiet (control_call a) z.line (ap (mapped control_call control_answer) is)
               (quiet_so l z.line a r z.works_so silent));
@@ -231,6 +238,7 @@ module _ (fixed : Fixed) (e : Endpoint) (dir : Dir) where
         let z = works_so_by before l a r after (asked s a is for_it) at made (fits_so s a l is fits) in
         record {
           line = z.line;
+          worked_so = subst (IsWorked e s l) (sym z.line_is) (makes a z.row is);
           shown = z.shown;
           run = goes _ (At z.line u s aside) _
               (is_quiet (control_call a) z.line (ap (mapped control_call control_answer) is) (quiet_so l z.line a r z.works_so silent))

@@ -13,7 +13,7 @@ use Rattle.law_below_hubs.specs.ControlStands.{RequestGoesOn}
 use Rattle.law_below_hubs.proofs.ControlTurns.{request_work_is_events}
 use Rattle.law_below_hubs.proofs.ControlFits.{answers_fit}
 
-quiet_before : (s : KeySlot) → IsQuiet (mapped control_call control_answer s) → IsQuiet s
+pub quiet_before : (s : KeySlot) → IsQuiet (mapped control_call control_answer s) → IsQuiet s
 quiet_before Empty q = tt
 quiet_before (Asked a) q = q
 quiet_before (Hidden a r) q = q

@@ -85,6 +85,9 @@ module _ (e : Endpoint) (r : Request) (dir : Dir) where
         token = token_known r ask.pid q.token;
       }
 
+-- a key has nothing that is asked for it: then what is asked is so, if all that isn't asked for it is
+module _ (back : Key) (old new : Ask → Type 0)
+    (turns : (ask : Ask) → old (classic_of ask) → (key_of ask ≡ back → ⊥) → new (classic_of ask)) where
   -- ---- one translator
 
   pending_is : (b : BufferContent) (a : Taken) (silences : ℕ) → b ≡ Pending a silences → key_of a.ask ≡ back → slot_in back b ≡ Asked a
@@ -93,19 +96,19 @@ module _ (e : Endpoint) (r : Request) (dir : Dir) where
       ∙ ap (λ (x : Bool). slot_by x (Pending a silences))
       (subst (λ (c : Key). is_same_key (key_of a.ask) c ≡ true) own (same_as_itself (key_of a.ask)))
 
-  buffer_turn : (b : BufferContent) → ((a : Taken) → slot_in back b ≡ Asked a → ⊥) → IsRightIn Request_asks b → IsRightIn In_turn b
+  buffer_turn : (b : BufferContent) → ((a : Taken) → slot_in back b ≡ Asked a → ⊥) → IsRightIn old b → IsRightIn new b
   buffer_turn Free none right = tt
   buffer_turn (Pending a silences) none right =
-      in_turn a.ask right (λ own. none a (pending_is (Pending a silences) a silences refl own))
+      turns a.ask right (λ own. none a (pending_is (Pending a silences) a silences refl own))
   buffer_turn (Ready a answer) none right = tt
   buffer_turn (Old a answer) none right = tt
 
-  entries_turn : (es : List Entry) → is_there back es ≡ false → AreEntries back es → AreRightEntries Request_asks es
-      → AreRightEntries In_turn es
+  entries_turn : (es : List Entry) → is_there back es ≡ false → AreEntries back es → AreRightEntries old es
+      → AreRightEntries new es
   entries_turn [] none are right = tt
   entries_turn (x ∷ es) none are right =
       let n = not_there back x es none in (
-        in_turn x.ask right.0 (λ own.
+        turns x.ask right.0 (λ own.
             let on : is_same_key x.key back ≡ true =
             subst (λ (c : Key). is_same_key x.key c ≡ true) (are.0.key ∙ own) (same_as_itself x.key) in
             let z : true ≡ false = sym on ∙ n.0 in cc),
@@ -119,7 +122,7 @@ module _ (e : Endpoint) (r : Request) (dir : Dir) where
   second_asked x y a (inl empty) is = ap (λ (z : KeySlot). either_slot z y) empty ∙ is
   second_asked x y a (inr empty) is = absurd (let z = sym empty ∙ is in cc)
 
-  one_turn : (t : Translator) (s : KeySlot) → Has Buffered back t s → IsQuiet s → AreRight Request_asks t → AreRight In_turn t
+  one_turn : (t : Translator) (s : KeySlot) → Has Buffered back t s → IsQuiet s → AreRight old t → AreRight new t
   one_turn t s has quiet right =
       let is : slot_of back t.bulk ≡ s = has.slot.is in
       record {
@@ -132,29 +135,31 @@ module _ (e : Endpoint) (r : Request) (dir : Dir) where
 
   -- ---- all hubs
 
-  none_turn : (ts : List Translator) → HaveNone Buffered back ts → AllRight Request_asks ts → AllRight In_turn ts
+  none_turn : (ts : List Translator) → HaveNone Buffered back ts → AllRight old ts → AllRight new ts
   none_turn [] none right = tt
   none_turn (t ∷ ts) none right = (one_turn t Empty none.0 tt right.0, none_turn ts none.1 right.1)
 
-  at_turn : (place : ℕ) (ts : List Translator) (s : KeySlot) → HasAt Buffered back place ts s → IsQuiet s → AllRight Request_asks ts
-      → AllRight In_turn ts
+  at_turn : (place : ℕ) (ts : List Translator) (s : KeySlot) → HasAt Buffered back place ts s → IsQuiet s → AllRight old ts
+      → AllRight new ts
   at_turn place [] s has quiet right = tt
   at_turn zero (t ∷ ts) s has quiet right = (one_turn t s has.0 quiet right.0, none_turn ts has.1 right.1)
   at_turn (suc place) (t ∷ ts) s has quiet right = (one_turn t Empty has.0 tt right.0, at_turn place ts s has.1 quiet right.1)
 
-  nones_turn : (hs : List HubContent) → HubsHaveNone Buffered back hs → AreRightHubs Request_asks hs → AreRightHubs In_turn hs
+  nones_turn : (hs : List HubContent) → HubsHaveNone Buffered back hs → AreRightHubs old hs → AreRightHubs new hs
   nones_turn [] none right = tt
   nones_turn (h ∷ hs) none right = (none_turn h.translators.all none.0 right.0, nones_turn hs none.1 right.1)
 
-  hubs_turn : (hub place : ℕ) (hs : List HubContent) (s : KeySlot) → HubsHave Buffered back hub place hs s → IsQuiet s
-      → AreRightHubs Request_asks hs → AreRightHubs In_turn hs
+  pub hubs_turn : (hub place : ℕ) (hs : List HubContent) (s : KeySlot) → HubsHave Buffered back hub place hs s → IsQuiet s
+      → AreRightHubs old hs → AreRightHubs new hs
   hubs_turn hub place [] s has quiet right = tt
   hubs_turn zero place (h ∷ hs) s has quiet right = (at_turn place h.translators.all s has.0 quiet right.0, nones_turn hs has.1 right.1)
   hubs_turn (suc hub) place (h ∷ hs) s has quiet right =
       (none_turn h.translators.all has.0 right.0, hubs_turn hub place hs s has.1 quiet right.1)
 
 pub quiet_is_in_turn : QuietIsInTurn
-quiet_is_in_turn e r dir hub place aside hubs has quiet right = hubs_turn e r dir hub place hubs aside has quiet right
+quiet_is_in_turn e r dir hub place aside hubs has quiet right =
+    hubs_turn (control_key e (turned dir)) (IsRequestAsk r e.addr e.num) (IsInTurn (control_key e dir)) (in_turn e r dir) hub place hubs
+    aside has quiet right
 
 -- ---- what the work leaves of a key that isn't asked
 
@@ -180,7 +185,7 @@ module _ (fixed : Fixed) (frindex : ℕ) (k : Key) where
         nones_stay hs (floor_left fixed h floor) none.1,
       )
 
-  quiet_stays : (hub place : ℕ) (hs : List HubContent) (floor : Floor) (s : KeySlot) → IsQuiet s → HubsHave Buffered k hub place hs s
+  pub quiet_stays : (hub place : ℕ) (hs : List HubContent) (floor : Floor) (s : KeySlot) → IsQuiet s → HubsHave Buffered k hub place hs s
       → HubsHave Buffered k hub place (hubs_worked fixed frindex hs floor) s
   quiet_stays hub place [] floor s quiet has = absurd has
   quiet_stays zero place (h ∷ hs) floor s quiet has =
@@ -199,7 +204,7 @@ module _ (fixed : Fixed) (frindex : ℕ) (k : Key) where
         quiet_stays hub place hs (floor_left fixed h floor) s quiet has.1,
       )
 
-rights_stay : (right : Ask → Type 0) (fixed : Fixed) (frindex : ℕ) (hs : List HubContent) (floor : Floor) → AreRightHubs right hs
+pub rights_stay : (right : Ask → Type 0) (fixed : Fixed) (frindex : ℕ) (hs : List HubContent) (floor : Floor) → AreRightHubs right hs
     → AreRightHubs right (hubs_worked fixed frindex hs floor)
 rights_stay right fixed frindex [] floor are = tt
 rights_stay right fixed frindex (h ∷ hs) floor are =
@@ -217,6 +222,7 @@ request_work_is_events e r dir hub place frindex s aside l u w has other quiet r
     (quiet_is_in_turn e r dir hub place aside w.bus.hubs other quiet right) fits is in
     record {
       line = x.line;
+      works = x.works;
       slot = x.slot;
       control = x.control;
       has = x.has;

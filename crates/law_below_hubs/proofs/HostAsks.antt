@@ -71,11 +71,12 @@ asks_back Directions.In part q kind out last w outs dir =
     (w.pid ∙ outs q.current w.element w.here w.published) ∙ out_token (transaction_of kind q).split kind q.token.ping)
 
 -- the queue head of another endpoint asks another, or the other way
-pub asks_other : (dir : Dir) (part : Structures) (n : ℕ) (q : Qh) (kind : EpKind) (out : List ℕ) (last : Bool) (x y : Endpoint)
+pub asks_other : (own : EpKind) (dir : Dir) (part : Structures) (n : ℕ) (q : Qh) (kind : EpKind) (out : List ℕ) (last : Bool)
+    (x y : Endpoint)
     → IsQueuePart n part → part n ≡ Some (QueueHead q) → q.token.active ≡ true → y ≡ endpoint_of q → AsksElse dir part x y
-    → IsOfOther (told_key dir x) (call_in (transaction_of kind q) out last).ask
-asks_other dir part n q kind out last x y k here works is (inl apart) way addr ep =
+    → IsOfOther (told_key own dir x) (call_in (transaction_of kind q) out last).ask
+asks_other own dir part n q kind out last x y k here works is (inl apart) way addr ep =
     apart (sym addr ∙ ap (λ (e : Endpoint). e.addr) (sym is)) (sym ep ∙ ap (λ (e : Endpoint). e.ep) (sym is))
-asks_other dir part n q kind out last x y k here works is (inr back) way addr ep =
+asks_other own dir part n q kind out last x y k here works is (inr back) way addr ep =
     asks_back dir part q kind out last
     ((subst (IsSoundQueue part) (found_queue (part n) k.queue q k.here here) k.sound).work works) back way

@@ -6,13 +6,14 @@ use Rattle.std.proofs.lemmas.List.Folds.{concat-append}
 use Rattle.claims_base.specs.Prefix.{IsPrefix}
 use Rattle.law_translated.specs.Lift.{Buffered}
 use Rattle.law_translated.specs.InPipes.{in_halves, in_claims}
-use Rattle.law_translated.specs.OutPipes.{Line, IsAhead, Agrees, out_halves, out_claims}
+use Rattle.law_translated.specs.OutPipes.{Line, IsAhead, Agrees}
 use Rattle.law_translated.proofs.Lifting.{holds_gone}
 use Rattle.law_translated.proofs.Receiving.{in_keeps}
-use Rattle.law_translated.proofs.Sending.{out_keeps, taken_begins}
+use Rattle.law_translated.proofs.Sending.{taken_begins}
 use Rattle.law_translated.proofs.Streams.{begins}
 use Rattle.law_below_hubs.specs.HostIns.{in_split, InBegins}
-use Rattle.law_below_hubs.specs.HostOuts.{out_split, OutIsTaken}
+use Rattle.law_below_hubs.specs.HostOuts.{out_slot, OutIsTaken}
+use Rattle.law_below_hubs.proofs.HostKept.{agrees}
 
 known_first : (l : Line) → Agrees l → IsPrefix (concat l.known) (concat l.taken)
 known_first l a = by a.near
@@ -24,7 +25,7 @@ known_first l a = by a.near
 
 pub out_is_taken : OutIsTaken
 out_is_taken k i place w h waiting known next o =
-    let a : Agrees o.line = holds_gone out_halves out_claims out_keeps Buffered (out_split o.line o.wait o.slot) o.holds in
+    let a : Agrees o.line = agrees (out_slot o.slot) waiting o.line o.holds in
     record {
       taker = _;
       is = o.taker;

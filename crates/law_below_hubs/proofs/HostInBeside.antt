@@ -1,5 +1,5 @@
 -- What all other transactions, and the work of the hubs, leave of an IN endpoint below a hub.
-use Rattle.std.proofs.Common.{◌≡◌, ℕ, Bool, true, false, List, Some, ap, refl, sym, ◌∙◌}
+use Rattle.std.proofs.Common.{◌≡◌, ◌⊎◌, inl, inr, ℕ, Bool, true, false, List, Some, ap, refl, sym, subst, ◌∙◌}
 use Rattle.std.specs.List.{concat}
 use Rattle.usb_base.specs.declared.packets.Ask.{Ask}
 use Rattle.usb_base.specs.declared.packets.Dir.TheVariants as Directions
@@ -12,7 +12,7 @@ use Rattle.hub_keys.specs.Keys.{direction_of, key_of, is_same_key}
 use Rattle.hub_keys.specs.declared.key.Key.{Key}
 use Rattle.bus_wire.specs.Bus.{Wired}
 use Rattle.law_devices.specs.scripted_requests.Controls.{transacts_by}
-use Rattle.law_translated.specs.Lift.{Buffered, Wait, Empty, Holds}
+use Rattle.law_translated.specs.Lift.{Buffered, Wait, Empty, gone_wait, Holds}
 use Rattle.law_translated.specs.InPipes.{in_halves, in_claims}
 use Rattle.law_translated.specs.KeySlots.{KeySlot, way_of}
 use Rattle.law_translated.specs.KeyEvents.{EventsOf}
@@ -24,13 +24,24 @@ use Rattle.law_below_hubs.specs.Kept.{IfStart}
 use Rattle.law_below_hubs.specs.HubsKeys.{HubsHave, IsOfKind, AreRightHubs}
 use Rattle.law_below_hubs.specs.InWork.{in_asked, in_answer, sender_of_line}
 use Rattle.law_below_hubs.specs.Splits.{LeavesKey}
-use Rattle.law_below_hubs.specs.HostOuts.{IsWait, IsOfOther}
-use Rattle.law_below_hubs.specs.HostIns.{in_split, InSide, SparesKey, OthersLeaveIn, BeginLeavesIn}
+use Rattle.law_below_hubs.specs.HostOuts.{IsOfOther}
+use Rattle.law_below_hubs.specs.HostIns.{IsWait, starts, completes, too_late, in_split, InSide, SparesKey, OthersLeaveIn, BeginLeavesIn}
 use Rattle.law_below_hubs.proofs.HighBuses.{senders_above}
-use Rattle.law_below_hubs.proofs.HostBeside.{other_key, then_waits}
+use Rattle.law_below_hubs.proofs.HostBeside.{other_key}
 use Rattle.law_below_hubs.proofs.Kept.{transactions_keep_right}
 use Rattle.law_below_hubs.proofs.InBegin.{in_work_is_events}
 use Rattle.law_below_hubs.proofs.SplitsBeside.{splits_by_key}
+
+-- ---- whether the host waits
+
+gone_still : (waiting : Bool) (u : Wait) → IsWait waiting u → IsWait waiting (gone_wait u)
+gone_still _ _ starts = starts
+gone_still _ _ completes = too_late
+gone_still _ _ too_late = too_late
+
+pub then_waits : (waiting : Bool) (u next : Wait) → IsWait waiting u → (next ≡ u) ⊎ (next ≡ gone_wait u) → IsWait waiting next
+then_waits waiting u next is (inl same) = subst (IsWait waiting) (sym same) is
+then_waits waiting u next is (inr gone) = subst (IsWait waiting) (sym gone) (gone_still waiting u is)
 
 events : EventsOf in_halves in_asked in_answer
 events = events_of in_halves in_asked in_answer

@@ -80,7 +80,7 @@ pub data InSettles (q : Qh) (z : Settlement) : Reply → Type 0 where
 
 module _ (q : Qh) (out : List ℕ) (waits : q.token.split_state ≡ true) where
   abbrev z : Reply → Settlement
-  z reply = settled_by (completing q 1) q out reply
+  z reply = settled_by (completing Kinds.Bulk q 1) q out false reply
 
   abbrev host : HostSide
   host = host_in q
@@ -148,5 +148,5 @@ module _ (q : Qh) (out : List ℕ) (waits : q.token.split_state ≡ true) where
 pub in_settles : (q : Qh) (out : List ℕ) (reply : Reply) → (q.eps == 2) ≡ false → q.token.split_state ≡ true → q.token.pid ≡ 1
     → InSettles q (settlement_as Kinds.Bulk q out false reply) reply
 in_settles q out reply below waits inward =
-    subst (λ (t : Transaction). InSettles q (settled_by t q out reply) reply) (sym (is_completing q 1 below waits inward))
+    subst (λ (t : Transaction). InSettles q (settled_by t q out false reply) reply) (sym (is_completing Kinds.Bulk q 1 below waits inward))
     (by_reply q out waits reply inward)

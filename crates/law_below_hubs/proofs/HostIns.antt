@@ -1,6 +1,6 @@
 -- Each transaction of the host of a bulk IN endpoint below a hub leaves host, hub and device as they must stand.
 use Rattle.std.proofs.Common.{◌≡◌, ℕ, ◌-◌, ◌==◌, Bool, true, false, not, if◌then◌else◌, List, [], ◌∷◌, ◌++◌, take, drop, Some, ap, refl}
-use Rattle.std.proofs.Common.{sym, subst, ◌∙◌, ⊎_elim}
+use Rattle.std.proofs.Common.{sym, subst, ◌∙◌, ◌⊎◌, inl, inr, ⊎_elim}
 use Rattle.std.specs.List.{concat}
 use Rattle.std.proofs.lemmas.Bool.{false≢true}
 use Rattle.std.proofs.lemmas.List.{append-nil}
@@ -34,11 +34,13 @@ use Rattle.law_ring.specs.Bus.{Sender}
 use Rattle.law_ring.proofs.Common.{by_none}
 use Rattle.law_devices.specs.scripted_requests.Controls.{transacts_by}
 use Rattle.law_translated.specs.Lift.{Buffered, Wait, Idle, Waits, Empty, Asked, Hidden, There, Told, told, Step, Run, Holds}
-use Rattle.law_translated.specs.InPipes.{Line, Hears, in_halves, in_claims, InSplit}
+use Rattle.law_translated.specs.InPipes.{Line, Hears, in_halves, in_claims}
 use Rattle.law_translated.specs.InPipes as Pipe
 use Rattle.law_translated.specs.InPipes.Hears.{takes, is_long, drops, waits, stops}
 use Rattle.law_translated.specs.KeySlots.{KeySlot}
 use Rattle.law_translated.specs.KeySteps.{OwnStart, given_reply}
+use Rattle.law_translated.specs.KeySteps.OwnStart.{starts as own_starts, repeats as own_repeats, is_full as own_is_full}
+use Rattle.law_translated.specs.KeySteps.OwnStart.{replaces as own_replaces, starts_none as own_starts_none}
 use Rattle.law_translated.specs.KeyLaws.{start_of}
 use Rattle.law_translated.specs.KeyEvents.{EventsOf}
 use Rattle.law_translated.proofs.KeyEvents.{events_of}
@@ -48,16 +50,26 @@ use Rattle.law_below_hubs.specs.Seated.{sender_at}
 use Rattle.law_below_hubs.specs.HubsKeys.{is_second, IsOfKind}
 use Rattle.law_below_hubs.specs.InWork.{in_asked, in_answer, sender_of_line}
 use Rattle.law_below_hubs.specs.Splits.{IsAtHub, StartHeard, StartsAtHub, CompleteHeard, CompletesAtHub}
-use Rattle.law_below_hubs.specs.HostOuts.{IsWait, starts, completes, too_late}
+use Rattle.law_below_hubs.specs.HostIns.{IsWait, starts, completes, too_late}
 use Rattle.law_below_hubs.specs.HostIns.{in_key, in_split, InSide, IsInBelow, OwnInGoesOn}
 use Rattle.law_below_hubs.proofs.HighBuses.{senders_above}
 use Rattle.law_below_hubs.proofs.Kept.{transactions_keep_right}
 use Rattle.law_below_hubs.proofs.SplitsBeside.{splits_by_key}
-use Rattle.law_below_hubs.proofs.HostOuts.{start_answers, starts_idle}
 use Rattle.law_below_hubs.proofs.HostRests.{none_of}
 use Rattle.law_below_hubs.proofs.HostSettles.{starting, completing, is_starting, is_completing, StartSettles, start_settles}
 use Rattle.law_below_hubs.proofs.HostInSettles.{InSettles, in_settles}
 use Rattle.law_below_hubs.proofs.HostInSettles.InSettles.{took, too_long, repeated, is_refused, is_stalled, goes_on}
+
+pub start_answers : (a : Taken) (s : KeySlot) (r : Reply) (new : KeySlot) → OwnStart Buffered a s r new
+    → (r ≡ Hand Packets.Ack) ⊎ (r ≡ Hand Packets.Nak)
+start_answers a s _ _ (own_starts quiet) = inl refl
+start_answers a s _ _ (own_repeats way busy) = inl refl
+start_answers a s _ _ (own_is_full way empty) = inr refl
+start_answers a s _ _ (own_replaces way busy) = absurd cc
+start_answers a s _ _ (own_starts_none way empty) = absurd cc
+
+pub starts_idle : (u : Wait) → IsWait false u → u ≡ Idle
+starts_idle _ starts = refl
 
 events : EventsOf in_halves in_asked in_answer
 events = events_of in_halves in_asked in_answer
@@ -139,17 +151,17 @@ module _ (packets : List (List ℕ)) (part : Structures) (q : Qh) (i place : ℕ
       -- ---- a start-split
 
       module _ (state : q.token.split_state ≡ false) where
-        call_is : transaction_of Kinds.Bulk q ≡ starting q 1
-        call_is = is_starting q 1 at.below state at.inward
+        call_is : transaction_of Kinds.Bulk q ≡ starting Kinds.Bulk q 1
+        call_is = is_starting Kinds.Bulk q 1 at.below state at.inward
 
         abbrev asked : Ask
-        asked = (call_in (starting q 1) out false).ask
+        asked = (call_in (starting Kinds.Bulk q 1) out false).ask
 
         made_start : transacts_by w asked [] reply v
         made_start = subst (λ (t : Transaction). transacts_by w (call_in t out false).ask (call_in t out false).out reply v) call_is made
 
-        facts : StartSettles q reply z
-        facts = start_settles q 1 out reply at.below state at.inward
+        facts : StartSettles Kinds.Bulk q reply z
+        facts = start_settles Kinds.Bulk false q 1 out reply refl at.below state at.inward
 
         still : (is_moved z.outcome ≡ false) × (moved_by z.outcome ≡ 0)
         still = (facts.still, by_none z.outcome facts.still)
@@ -182,8 +194,8 @@ module _ (packets : List (List ℕ)) (part : Structures) (q : Qh) (i place : ℕ
           holds = h0;
         }
 
-        of_reply : (r : Reply) → reply ≡ r → StartSettles q r z
-        of_reply r is = subst (λ (x : Reply). StartSettles q x z) is facts
+        of_reply : (r : Reply) → reply ≡ r → StartSettles Kinds.Bulk q r z
+        of_reply r is = subst (λ (x : Reply). StartSettles Kinds.Bulk q x z) is facts
 
         of_own : (r : Reply) (new : KeySlot) → reply ≡ r → OwnStart Buffered taken o.slot r new → new ≡ heard.slot
             → After
@@ -216,11 +228,11 @@ module _ (packets : List (List ℕ)) (part : Structures) (q : Qh) (i place : ℕ
       -- ---- a complete-split
 
       module _ (state : q.token.split_state ≡ true) where
-        completes_is : transaction_of Kinds.Bulk q ≡ completing q 1
-        completes_is = is_completing q 1 at.below state at.inward
+        completes_is : transaction_of Kinds.Bulk q ≡ completing Kinds.Bulk q 1
+        completes_is = is_completing Kinds.Bulk q 1 at.below state at.inward
 
         abbrev complete_asked : Ask
-        complete_asked = (call_in (completing q 1) out false).ask
+        complete_asked = (call_in (completing Kinds.Bulk q 1) out false).ask
 
         made_complete : transacts_by w complete_asked [] reply v
         made_complete =

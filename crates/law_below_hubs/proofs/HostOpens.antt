@@ -2,6 +2,8 @@
 use Rattle.std.proofs.Common.{◌≡◌, ℕ, Bool, false, not, [], None, refl, sym, subst, ap, ◌∙◌, inl}
 use Rattle.usb_base.specs.declared.packets.Dir.{Dir}
 use Rattle.usb_base.specs.declared.packets.Dir.TheVariants as Directions
+use Rattle.usb_base.specs.declared.packets.EpKind.{EpKind}
+use Rattle.usb_base.specs.declared.packets.EpKind.TheVariants as Kinds
 use Rattle.bus_wire.specs.Bus.{Wired}
 use Rattle.hc_copy.specs.Planning.{transaction_of}
 use Rattle.hc_copy.specs.Transacting.{call_in}
@@ -20,9 +22,9 @@ use Rattle.law_translated.specs.Lift.{Idle, Empty}
 use Rattle.law_translated.specs.OutPipes.{out_opening}
 use Rattle.law_translated.proofs.Receiving.{opening_counts}
 use Rattle.law_below_hubs.specs.HostEvents.{hand_host, told_key}
-use Rattle.law_below_hubs.specs.HostIns.{InSide}
+use Rattle.law_below_hubs.specs.HostIns.{starts, InSide}
 use Rattle.law_below_hubs.specs.HostOpens.{OutOpens, InOpens, HeadOpensOut, HeadOpensIn, AsksNone, UnaskedLeavesOut, UnaskedLeavesIn}
-use Rattle.law_below_hubs.specs.HostOuts.{starts, OutSide, IsOfOther}
+use Rattle.law_below_hubs.specs.HostOuts.{OutSide, IsOfOther}
 use Rattle.law_below_hubs.proofs.HostAsks.{asks_other}
 use Rattle.law_below_hubs.proofs.HostBeside.{others_leave_out, begin_leaves_out}
 use Rattle.law_below_hubs.proofs.HostInBeside.{others_leave_in, begin_leaves_in}
@@ -32,16 +34,14 @@ use Rattle.law_below_hubs.proofs.HostInBeside.{others_leave_in, begin_leaves_in}
 pub out_opens : OutOpens
 out_opens k i place w has right taker = record {
   line = out_opening;
-  wait = Idle;
   slot = Empty;
-  is_wait = starts;
   knows = refl;
   sends = refl;
   rest = refl;
   has = has;
   right = right;
   taker = taker;
-  holds = record { at = record { near = inl refl; sends_parity = refl; expects_parity = refl }; aside = tt };
+  holds = record { near = inl refl; sends_parity = refl; expects_parity = refl };
 }
 
 pub in_opens : InOpens
@@ -62,7 +62,7 @@ in_opens packets k i place w going has right sender = record {
 -- ---- a new queue head
 
 pub head_opens_out : HeadOpensOut
-head_opens_out w i place parts hand n x q head is below own outs first host hub side = (
+head_opens_out kind w i place parts hand n x q head is below own outs first host hub side = (
   record {
     queue = q;
     head = head;
@@ -75,10 +75,10 @@ head_opens_out w i place parts hand n x q head is below own outs first host hub 
     hub = hub;
     host = record {
       next = None;
-      side = subst (λ (b : Bool). OutSide (told_key Directions.Out (endpoint_of q)) i place w b (hand_host hand n q).waiting [] None)
+      side = subst (λ (b : Bool). OutSide (told_key kind Directions.Out (endpoint_of q)) i place w b (hand_host hand n q).waiting [] None)
           (sym host.toggle)
-          (subst (λ (b : Bool). OutSide (told_key Directions.Out (endpoint_of q)) i place w false b [] None) (sym host.waiting)
-          (subst (λ (y : Endpoint). OutSide (told_key Directions.Out y) i place w false false [] None) is side));
+          (subst (λ (b : Bool). OutSide (told_key kind Directions.Out (endpoint_of q)) i place w false b [] None) (sym host.waiting)
+          (subst (λ (y : Endpoint). OutSide (told_key kind Directions.Out y) i place w false false [] None) is side));
       agrees = level refl refl;
     };
   },
@@ -96,54 +96,58 @@ head_opens_in packets w i place parts hand n x q head is below own ins first hos
   first = first;
   rests = λ off on. host.waiting;
   hub = hub;
-  side = subst (λ (b : Bool). InSide packets (told_key Directions.In x) i place w b (hand_host hand n q).waiting
+  side = subst (λ (b : Bool). InSide packets (told_key Kinds.Bulk Directions.In x) i place w b (hand_host hand n q).waiting
       (not (hand_host hand n q).halted) []) (sym host.toggle)
-      (subst (λ (b : Bool). InSide packets (told_key Directions.In x) i place w false b (not (hand_host hand n q).halted) [])
+      (subst (λ (b : Bool). InSide packets (told_key Kinds.Bulk Directions.In x) i place w false b (not (hand_host hand n q).halted) [])
       (sym host.waiting) (side (not (hand_host hand n q).halted)));
 }
 
 -- ---- where none asks it
 
-asked_other : (dir : Dir) (near : ℕ → Bool) (x : Endpoint) (parts : StructureSets) (hand : Hand) (wire after : Wired) (later : Hand)
+asked_other : (own : EpKind) (dir : Dir) (near : ℕ → Bool) (x : Endpoint) (parts : StructureSets) (hand : Hand) (wire after : Wired)
+    (later : Hand)
     → AskedAreNear near parts hand → AsksNone dir near parts x → (m : Asks transacts_by parts hand wire after later)
-    → IsOfOther (told_key dir x) (call_in (transaction_of m.kind m.copy.queue) m.out m.last).ask
-asked_other dir near x parts hand wire after later asked none m =
+    → IsOfOther (told_key own dir x) (call_in (transaction_of m.kind m.copy.queue) m.out m.last).ask
+asked_other own dir near x parts hand wire after later asked none m =
     let b = none m.copy.at (asked m.copy m.in_hand m.here m.works) in
     let is : b.0 ≡ endpoint_of m.copy.queue = b.1.is
     ∙ ap endpoint_of (found_queue (parts m.copy.at m.copy.at) b.1.queue m.copy.queue b.1.head m.here) in
-    asks_other dir (parts m.copy.at) m.copy.at m.copy.queue m.kind m.out m.last x b.0 m.part_is m.here m.works is b.2
+    asks_other own dir (parts m.copy.at) m.copy.at m.copy.queue m.kind m.out m.last x b.0 m.part_is m.here m.works is b.2
 
 pub unasked_leaves_out : UnaskedLeavesOut
-unasked_leaves_out near x i place descs parts hand wire after now later h waiting known next asked none beside
+unasked_leaves_out kind near x i place descs parts hand wire after now later h waiting known next asked none beside streams
     (begun index allowed begins told) side =
-    subst (λ (v : Wired). OutSide (told_key Directions.Out x) i place v h waiting known next) (sym begins.1)
-    (begin_leaves_out (told_key Directions.Out x) i place index wire h waiting known next refl side)
-unasked_leaves_out near x i place descs parts hand wire after now later h waiting known next asked none beside
+    subst (λ (v : Wired). OutSide (told_key kind Directions.Out x) i place v h waiting known next) (sym begins.1)
+    (begin_leaves_out (told_key kind Directions.Out x) i place index wire h waiting known next refl side)
+unasked_leaves_out kind near x i place descs parts hand wire after now later h waiting known next asked none beside streams
     (moved (same told quiet)) side =
-    subst (λ (v : Wired). OutSide (told_key Directions.Out x) i place v h waiting known next) (sym quiet) side
-unasked_leaves_out near x i place descs parts hand wire after now later h waiting known next asked none beside
+    subst (λ (v : Wired). OutSide (told_key kind Directions.Out x) i place v h waiting known next) (sym quiet) side
+unasked_leaves_out kind near x i place descs parts hand wire after now later h waiting known next asked none beside streams
     (moved (aside told ask out reply is made)) side =
-    others_leave_out (told_key Directions.Out x) i place wire ask out reply after h waiting known next refl refl (beside ask is) made side
-unasked_leaves_out near x i place descs parts hand wire after now later h waiting known next asked none beside
+    others_leave_out (told_key kind Directions.Out x) i place wire ask out reply after h waiting known next refl streams
+    (beside ask is) made side
+unasked_leaves_out kind near x i place descs parts hand wire after now later h waiting known next asked none beside streams
     (moved (grows m all g)) side =
-    others_leave_out (told_key Directions.Out x) i place wire (call_in (transaction_of m.kind m.copy.queue) m.out m.last).ask
-    (call_in (transaction_of m.kind m.copy.queue) m.out m.last).out m.reply after h waiting known next refl refl
-    (asked_other Directions.Out near x parts hand wire after later asked none m) m.made side
+    others_leave_out (told_key kind Directions.Out x) i place wire (call_in (transaction_of m.kind m.copy.queue) m.out m.last).ask
+    (call_in (transaction_of m.kind m.copy.queue) m.out m.last).out m.reply after h waiting known next refl streams
+    (asked_other kind Directions.Out near x parts hand wire after later asked none m) m.made side
 
 pub unasked_leaves_in : UnaskedLeavesIn
 unasked_leaves_in packets near x i place descs parts hand wire after now later h waiting going known asked none beside spares
     (begun index allowed begins told) side =
-    subst (λ (v : Wired). InSide packets (told_key Directions.In x) i place v h waiting going known) (sym begins.1)
-    (begin_leaves_in packets (told_key Directions.In x) i place index wire h waiting going known refl side)
+    subst (λ (v : Wired). InSide packets (told_key Kinds.Bulk Directions.In x) i place v h waiting going known) (sym begins.1)
+    (begin_leaves_in packets (told_key Kinds.Bulk Directions.In x) i place index wire h waiting going known refl side)
 unasked_leaves_in packets near x i place descs parts hand wire after now later h waiting going known asked none beside spares
     (moved (same told quiet)) side =
-    subst (λ (v : Wired). InSide packets (told_key Directions.In x) i place v h waiting going known) (sym quiet) side
+    subst (λ (v : Wired). InSide packets (told_key Kinds.Bulk Directions.In x) i place v h waiting going known) (sym quiet) side
 unasked_leaves_in packets near x i place descs parts hand wire after now later h waiting going known asked none beside spares
     (moved (aside told ask out reply is made)) side =
-    others_leave_in packets (told_key Directions.In x) i place wire ask out reply after h waiting going known refl refl (beside ask is)
+    others_leave_in packets (told_key Kinds.Bulk Directions.In x) i place wire ask out reply after h waiting going known refl refl
+    (beside ask is)
     (spares ask out reply made) made side
 unasked_leaves_in packets near x i place descs parts hand wire after now later h waiting going known asked none beside spares
     (moved (grows m all g)) side =
-    others_leave_in packets (told_key Directions.In x) i place wire (call_in (transaction_of m.kind m.copy.queue) m.out m.last).ask
+    others_leave_in packets (told_key Kinds.Bulk Directions.In x) i place wire (call_in
+    (transaction_of m.kind m.copy.queue) m.out m.last).ask
     (call_in (transaction_of m.kind m.copy.queue) m.out m.last).out m.reply after h waiting going known refl refl
-    (asked_other Directions.In near x parts hand wire after later asked none m) (spares _ _ m.reply m.made) m.made side
+    (asked_other Kinds.Bulk Directions.In near x parts hand wire after later asked none m) (spares _ _ m.reply m.made) m.made side

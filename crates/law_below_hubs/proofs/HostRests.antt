@@ -2,6 +2,7 @@
 use Rattle.std.proofs.Common.{◌≡◌, ℕ, ◌-◌, ◌==◌, Bool, true, false, if◌then◌else◌, List, [], ◌∷◌, length, take, drop, ap, refl, sym}
 use Rattle.std.proofs.Common.{◌∙◌, arith}
 use Rattle.std.proofs.lemmas.Bool.{false≢true}
+use Rattle.usb_base.specs.declared.packets.EpKind.{EpKind}
 use Rattle.usb_base.specs.declared.packets.EpKind.TheVariants as Kinds
 use Rattle.usb_base.specs.declared.packets.Reply.{Reply}
 use Rattle.qh_qtd.specs.declared.qtd.Qtd.{Qtd}
@@ -12,6 +13,7 @@ use Rattle.hc_copy.specs.Overlay.{buffer_place}
 use Rattle.hc_copy.specs.Planning.{pid_at, host_in, transaction_of}
 use Rattle.hc_copy.specs.Transacting.{call_in}
 use Rattle.hc_copy.specs.WriteBack.{moved_by}
+use Rattle.claims_report.specs.Streams.{has_stream}
 use Rattle.law_structures.specs.lent_structures.Settles.{is_moved, Settles}
 use Rattle.law_structures.proofs.lemmas.lent_structures.Settling.{a_transaction_settles}
 use Rattle.law_ring.specs.Hand.{Settlement}
@@ -25,7 +27,7 @@ use Rattle.law_below_hubs.proofs.HostInSettles.{InSettles, in_settles}
 use Rattle.law_below_hubs.proofs.HostInSettles.InSettles.{took, too_long, repeated, is_refused as in_refused, is_stalled as in_stalled}
 use Rattle.law_below_hubs.proofs.HostInSettles.InSettles.{goes_on as in_goes_on}
 use Rattle.law_below_hubs.proofs.HostSettles.{start_settles, OutSettles, out_settles}
-use Rattle.law_below_hubs.proofs.HostSettles.OutSettles.{is_acked, is_refused, is_stalled, goes_on}
+use Rattle.law_below_hubs.proofs.HostSettles.OutSettles.{is_acked, moves_none}
 
 -- ---- the bytes of an OUT
 
@@ -58,34 +60,32 @@ in_none_got q out reply inward count still =
 
 -- ---- the host after it
 
-pub own_out_rests : (q : Qh) (out : List ℕ) (reply : Reply) → IsOutBelow q → length out ≡ (transaction_of Kinds.Bulk q).bytes
-    → (settlement_as Kinds.Bulk q out false reply).host.active ≡ false → (settlement_as Kinds.Bulk q out false reply).host.halted ≡ false
-    → (settlement_as Kinds.Bulk q out false reply).host.waiting ≡ false
-own_out_rests q out reply at count off going = by (is_moved (settlement_as Kinds.Bulk q out false reply).outcome) refl
+pub own_out_rests : (kind : EpKind) (last : Bool) (q : Qh) (out : List ℕ) (reply : Reply) → has_stream kind ≡ true → IsOutBelow q
+    → length out ≡ (transaction_of kind q).bytes → (settlement_as kind q out last reply).host.active ≡ false
+    → (settlement_as kind q out last reply).host.halted ≡ false → (settlement_as kind q out last reply).host.waiting ≡ false
+own_out_rests kind last q out reply streams at count off going = by (is_moved (settlement_as kind q out last reply).outcome) refl
   where
-    never : {A : Type 0} → is_moved (settlement_as Kinds.Bulk q out false reply).outcome ≡ true
-        → is_moved (settlement_as Kinds.Bulk q out false reply).outcome ≡ false → A
+    never : {A : Type 0} → is_moved (settlement_as kind q out last reply).outcome ≡ true
+        → is_moved (settlement_as kind q out last reply).outcome ≡ false → A
     never on still = absurd (false≢true (sym still ∙ on))
 
-    complete : (r : Reply) → is_moved (settlement_as Kinds.Bulk q out false reply).outcome ≡ true → OutSettles q
-        (settlement_as Kinds.Bulk q out false reply) r → (settlement_as Kinds.Bulk q out false reply).host.waiting ≡ false
+    complete : (r : Reply) → is_moved (settlement_as kind q out last reply).outcome ≡ true
+        → OutSettles q (settlement_as kind q out last reply) r → (settlement_as kind q out last reply).host.waiting ≡ false
     complete _ on (is_acked outcome idle) = idle
-    complete _ on (is_refused still idle) = idle
-    complete _ on (is_stalled still idle) = idle
-    complete r on (goes_on _ still late) = never on still
+    complete r on (moves_none _ still) = never on still
 
-    by_state : (b : Bool) → q.token.split_state ≡ b → is_moved (settlement_as Kinds.Bulk q out false reply).outcome ≡ true →
-        (settlement_as Kinds.Bulk q out false reply).host.waiting ≡ false
-    by_state true state on = complete reply on (out_settles q out reply at.below state at.out)
-    by_state false state on = never on (start_settles q 0 out reply at.below state at.out).still
+    by_state : (b : Bool) → q.token.split_state ≡ b → is_moved (settlement_as kind q out last reply).outcome ≡ true
+        → (settlement_as kind q out last reply).host.waiting ≡ false
+    by_state true state on = complete reply on (out_settles kind last q out reply streams at.below state at.out)
+    by_state false state on = never on (start_settles kind last q 0 out reply streams at.below state at.out).still
 
-    by : (b : Bool) → is_moved (settlement_as Kinds.Bulk q out false reply).outcome ≡ b →
-        (settlement_as Kinds.Bulk q out false reply).host.waiting ≡ false
+    by : (b : Bool) → is_moved (settlement_as kind q out last reply).outcome ≡ b
+        → (settlement_as kind q out last reply).host.waiting ≡ false
     by true on = by_state q.token.split_state refl on
     by false still =
         absurd (false≢true (sym going ∙ row_stops
-        (settle_row (call_in (transaction_of Kinds.Bulk q) out false).ask
-        (moving_of (transaction_of Kinds.Bulk q).split (transaction_of Kinds.Bulk q).pipe.pid (host_in q) (length out)) false reply
+        (settle_row (call_in (transaction_of kind q) out last).ask
+        (moving_of (transaction_of kind q).split (transaction_of kind q).pipe.pid (host_in q) (length out)) last reply
         (host_in q))
         (host_in q) at.works still off))
 
@@ -111,7 +111,7 @@ own_in_rests q out reply at works off going =
     by_state : (b : Bool) → q.token.split_state ≡ b → is_moved (settlement_as Kinds.Bulk q out false reply).outcome ≡ true
         → (settlement_as Kinds.Bulk q out false reply).host.waiting ≡ false
     by_state true state on = complete reply on (in_settles q out reply at.below state at.inward)
-    by_state false state on = never on (start_settles q 1 out reply at.below state at.inward).still
+    by_state false state on = never on (start_settles Kinds.Bulk false q 1 out reply refl at.below state at.inward).still
 
     by : (b : Bool) → is_moved (settlement_as Kinds.Bulk q out false reply).outcome ≡ b
         → (settlement_as Kinds.Bulk q out false reply).host.waiting ≡ false

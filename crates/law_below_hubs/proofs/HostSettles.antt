@@ -1,15 +1,16 @@
--- What a split transaction of a bulk endpoint comes to for its host, by the reply (EHCI 1.0, 4.12).
+-- What a split transaction of a bulk or interrupt endpoint comes to for its host, by the reply (EHCI 1.0, 4.12).
 use Rattle.std.proofs.Common.{◌≡◌, ℕ, ◌==◌, nat_le, Bool, true, false, if◌then◌else◌, List, length, ap, refl, sym, subst, ◌∙◌}
 use Rattle.std.proofs.lemmas.Bool.{false≢true}
 use Rattle.usb_base.specs.declared.endpoints.EndCause.TheVariants as Ends
 use Rattle.usb_base.specs.declared.packets.DataPart.TheVariants as Parts
+use Rattle.usb_base.specs.declared.packets.EpKind.{EpKind}
 use Rattle.usb_base.specs.declared.packets.EpKind.TheVariants as Kinds
 use Rattle.usb_base.specs.declared.packets.Pid.{Pid}
 use Rattle.usb_base.specs.declared.packets.Pid.TheVariants as Packets
 use Rattle.usb_base.specs.declared.packets.Reply.{Reply}
 use Rattle.usb_base.specs.declared.packets.Reply.TheVariants.{Silent, Bytes, Hand}
 use Rattle.usb_base.specs.declared.packets.Speed.{Speed}
-use Rattle.usb_base.specs.declared.packets.Speed.TheVariants.{High}
+use Rattle.usb_base.specs.declared.packets.Speed.TheVariants.{High, Full, Low}
 use Rattle.usb_base.specs.declared.packets.Split.TheVariants.{Start, Complete}
 use Rattle.qh_qtd.specs.declared.queue_head.Qh.{Qh}
 use Rattle.toggle_error.specs.declared.host.HostSide.{HostSide}
@@ -22,6 +23,7 @@ use Rattle.toggle_error.specs.declared.rows.Heard.TheVariants as Heards
 use Rattle.toggle_error.specs.Columns.{limit_of, out_token, fitting, heard_data, heard_of}
 use Rattle.toggle_error.specs.PlainRows.{plain_row, is_last_error, error_outcome}
 use Rattle.toggle_error.specs.SplitRows.{start_row, start_outcome, after_start, complete_row, complete_outcome, after_complete}
+use Rattle.claims_report.specs.Streams.{has_stream}
 use Rattle.transactions.specs.declared.pipe.Pipe.{Pipe}
 use Rattle.hc_copy.specs.declared.held.Transaction.{Transaction}
 use Rattle.hc_copy.specs.Planning.{pid_at, speed_at, queue_pipe, host_in, split_at, transaction_at, transaction_of}
@@ -33,46 +35,46 @@ use Rattle.law_ring.specs.Effects.{settlement_as}
 
 -- ---- its two transactions
 
-abbrev pub bulk_pipe : Qh → ℕ → Pipe
-bulk_pipe q code = record {
+abbrev pub stream_pipe : EpKind → Qh → ℕ → Pipe
+stream_pipe kind q code = record {
   addr = q.addr;
   ep = q.ep;
   speed = speed_at q.eps;
-  kind = Kinds.Bulk;
+  kind = kind;
   pid = pid_at code;
   hub = q.hub;
   port = q.port;
   part = Parts.All;
 }
 
-abbrev pub starting : Qh → ℕ → Transaction
-starting q code = transaction_at (Start q.hub q.port Parts.All) (bulk_pipe q code) (host_in q)
+abbrev pub starting : EpKind → Qh → ℕ → Transaction
+starting kind q code = transaction_at (Start q.hub q.port Parts.All) (stream_pipe kind q code) (host_in q)
 
-abbrev pub completing : Qh → ℕ → Transaction
-completing q code = transaction_at (Complete q.hub q.port) (bulk_pipe q code) (host_in q)
+abbrev pub completing : EpKind → Qh → ℕ → Transaction
+completing kind q code = transaction_at (Complete q.hub q.port) (stream_pipe kind q code) (host_in q)
 
-pub is_starting : (q : Qh) (code : ℕ) → (q.eps == 2) ≡ false → q.token.split_state ≡ false → q.token.pid ≡ code
-    → transaction_of Kinds.Bulk q ≡ starting q code
-is_starting q code below starts pid =
-    ap (λ (b : Bool). transaction_at (split_at b q.token.split_state (queue_pipe Kinds.Bulk q)) (queue_pipe Kinds.Bulk q) (host_in q)) below
-    ∙ ap (λ (b : Bool). transaction_at (split_at false b (queue_pipe Kinds.Bulk q)) (queue_pipe Kinds.Bulk q) (host_in q)) starts
-    ∙ ap (λ (c : ℕ). starting q c) pid
+pub is_starting : (kind : EpKind) (q : Qh) (code : ℕ) → (q.eps == 2) ≡ false → q.token.split_state ≡ false → q.token.pid ≡ code
+    → transaction_of kind q ≡ starting kind q code
+is_starting kind q code below starts pid =
+    ap (λ (b : Bool). transaction_at (split_at b q.token.split_state (queue_pipe kind q)) (queue_pipe kind q) (host_in q)) below
+    ∙ ap (λ (b : Bool). transaction_at (split_at false b (queue_pipe kind q)) (queue_pipe kind q) (host_in q)) starts
+    ∙ ap (λ (c : ℕ). starting kind q c) pid
 
-pub is_completing : (q : Qh) (code : ℕ) → (q.eps == 2) ≡ false → q.token.split_state ≡ true → q.token.pid ≡ code
-    → transaction_of Kinds.Bulk q ≡ completing q code
-is_completing q code below waits pid =
-    ap (λ (b : Bool). transaction_at (split_at b q.token.split_state (queue_pipe Kinds.Bulk q)) (queue_pipe Kinds.Bulk q) (host_in q)) below
-    ∙ ap (λ (b : Bool). transaction_at (split_at false b (queue_pipe Kinds.Bulk q)) (queue_pipe Kinds.Bulk q) (host_in q)) waits
-    ∙ ap (λ (c : ℕ). completing q c) pid
+pub is_completing : (kind : EpKind) (q : Qh) (code : ℕ) → (q.eps == 2) ≡ false → q.token.split_state ≡ true → q.token.pid ≡ code
+    → transaction_of kind q ≡ completing kind q code
+is_completing kind q code below waits pid =
+    ap (λ (b : Bool). transaction_at (split_at b q.token.split_state (queue_pipe kind q)) (queue_pipe kind q) (host_in q)) below
+    ∙ ap (λ (b : Bool). transaction_at (split_at false b (queue_pipe kind q)) (queue_pipe kind q) (host_in q)) waits
+    ∙ ap (λ (c : ℕ). completing kind q c) pid
 
-abbrev pub settled_by : Transaction → Qh → List ℕ → Reply → Settlement
-settled_by t q out reply = record {
-  host = host_after t out false reply;
-  outcome = outcome_in t out false reply;
-  got = received q (outcome_in t out false reply) reply;
+abbrev pub settled_by : Transaction → Qh → List ℕ → Bool → Reply → Settlement
+settled_by t q out last reply = record {
+  host = host_after t out last reply;
+  outcome = outcome_in t out last reply;
+  got = received q (outcome_in t out last reply) reply;
 }
 
-error_still : (host : HostSide) → is_moved (error_outcome host) ≡ false
+pub error_still : (host : HostSide) → is_moved (error_outcome host) ≡ false
 error_still host = by (is_last_error host)
   where
     by : (b : Bool) → is_moved (if b then Halt Ends.Error else Error) ≡ false
@@ -81,32 +83,43 @@ error_still host = by (is_last_error host)
 
 -- ---- a start-split
 
-abbrev pub is_taken : Heard → Bool
-is_taken Heards.Ack = true
-is_taken _ = false
+-- the host waits for a complete-split: an interrupt's in any case, since a periodic start has no handshake
+abbrev pub is_taken : EpKind → Heard → Bool
+is_taken Kinds.Interrupt _ = true
+is_taken _ Heards.Ack = true
+is_taken _ _ = false
 
-start_still : (h : Heard) (host : HostSide) → is_moved (start_outcome (start_row Kinds.Bulk h) host) ≡ false
-start_still Heards.Ack host = refl
-start_still Heards.Nak host = refl
-start_still _ host = error_still host
+start_still : (kind : EpKind) (h : Heard) (host : HostSide) → has_stream kind ≡ true
+    → is_moved (start_outcome (start_row kind h) host) ≡ false
+start_still Kinds.Interrupt h host streams = refl
+start_still Kinds.Bulk Heards.Ack host streams = refl
+start_still Kinds.Bulk Heards.Nak host streams = refl
+start_still Kinds.Bulk _ host streams = error_still host
+start_still Kinds.Control h host streams = absurd (false≢true streams)
+start_still Kinds.Iso h host streams = absurd (false≢true streams)
 
-start_waits : (h : Heard) (host : HostSide) → host.waiting ≡ false → (after_start (start_row Kinds.Bulk h) host).waiting ≡ is_taken h
-start_waits Heards.Ack host off = refl
-start_waits Heards.Nak host off = off
-start_waits _ host off = off
+start_waits : (kind : EpKind) (h : Heard) (host : HostSide) → has_stream kind ≡ true → host.waiting ≡ false
+    → (after_start (start_row kind h) host).waiting ≡ is_taken kind h
+start_waits Kinds.Interrupt h host streams off = refl
+start_waits Kinds.Bulk Heards.Ack host streams off = refl
+start_waits Kinds.Bulk Heards.Nak host streams off = off
+start_waits Kinds.Bulk _ host streams off = off
+start_waits Kinds.Control h host streams off = absurd (false≢true streams)
+start_waits Kinds.Iso h host streams off = absurd (false≢true streams)
 
 -- it moves nothing, and the host waits where the translator took it
-pub record StartSettles (q : Qh) (reply : Reply) (z : Settlement) : Type 0 where
+pub record StartSettles (kind : EpKind) (q : Qh) (reply : Reply) (z : Settlement) : Type 0 where
   pub still : is_moved z.outcome ≡ false
-  pub waits : z.host.waiting ≡ is_taken (heard_of (host_in q) reply)
+  pub waits : z.host.waiting ≡ is_taken kind (heard_of (host_in q) reply)
 
-pub start_settles : (q : Qh) (code : ℕ) (out : List ℕ) (reply : Reply) → (q.eps == 2) ≡ false → q.token.split_state ≡ false
-    → q.token.pid ≡ code → StartSettles q reply (settlement_as Kinds.Bulk q out false reply)
-start_settles q code out reply below starts pid =
-    subst (λ (t : Transaction). StartSettles q reply (settled_by t q out reply)) (sym (is_starting q code below starts pid))
+pub start_settles : (kind : EpKind) (last : Bool) (q : Qh) (code : ℕ) (out : List ℕ) (reply : Reply) → has_stream kind ≡ true
+    → (q.eps == 2) ≡ false → q.token.split_state ≡ false → q.token.pid ≡ code
+    → StartSettles kind q reply (settlement_as kind q out last reply)
+start_settles kind last q code out reply streams below starts pid =
+    subst (λ (t : Transaction). StartSettles kind q reply (settled_by t q out last reply)) (sym (is_starting kind q code below starts pid))
     (record {
-      still = start_still (heard_of (host_in q) reply) (host_in q);
-      waits = start_waits (heard_of (host_in q) reply) (host_in q) starts;
+      still = start_still kind (heard_of (host_in q) reply) (host_in q) streams;
+      waits = start_waits kind (heard_of (host_in q) reply) (host_in q) streams starts;
     })
 
 -- ---- a complete-split of an OUT
@@ -116,118 +129,121 @@ abbrev out_by : Bool → AskToken
 out_by true = tokens.PingedOut
 out_by false = tokens.Out
 
-abbrev is_fast : Speed → Bool
-is_fast High = true
-is_fast _ = false
+abbrev is_pinged : Speed → EpKind → Bool
+is_pinged High Kinds.Bulk = true
+is_pinged High Kinds.Control = true
+is_pinged _ _ = false
 
-out_is : (s : Speed) → out_token s Kinds.Bulk ≡ out_by (is_fast s)
-out_is High = refl
-out_is _ = refl
+out_is : (s : Speed) (kind : EpKind) → out_token s kind ≡ out_by (is_pinged s kind)
+out_is High Kinds.Bulk = refl
+out_is High Kinds.Control = refl
+out_is High Kinds.Interrupt = refl
+out_is High Kinds.Iso = refl
+out_is Full kind = refl
+out_is Low kind = refl
 
--- the answers that end it
-abbrev is_ending : Heard → Bool
-is_ending Heards.Ack = true
-is_ending Heards.Nak = true
-is_ending Heards.Stall = true
-is_ending _ = false
+abbrev is_ack : Heard → Bool
+is_ack Heards.Ack = true
+is_ack _ = false
 
-abbrev out_row : Bool → Heard → ℕ → HostSide → Outcome
-out_row b h sent host = complete_outcome (complete_row Kinds.Bulk false h (plain_row (out_by b) h sent)) host
+abbrev out_row : EpKind → Bool → Bool → Heard → ℕ → HostSide → Outcome
+out_row kind last b h sent host = complete_outcome (complete_row kind last h (plain_row (out_by b) h sent)) host
 
-abbrev out_after : Bool → Heard → ℕ → HostSide → HostSide
-out_after b h sent host = after_complete (complete_row Kinds.Bulk false h (plain_row (out_by b) h sent)) host
+-- what is no acknowledgement moves nothing
+out_still : (kind : EpKind) (last b : Bool) (h : Heard) (sent : ℕ) (host : HostSide) → has_stream kind ≡ true → is_ack h ≡ false
+    → is_moved (out_row kind last b h sent host) ≡ false
+out_still kind last b Heards.Ack sent host streams off = absurd (false≢true (sym off))
+out_still Kinds.Interrupt true b Heards.Nyet sent host streams off = error_still host
+out_still Kinds.Interrupt false b Heards.Nyet sent host streams off = refl
+out_still Kinds.Interrupt true b Heards.Err sent host streams off = error_still host
+out_still Kinds.Interrupt false b Heards.Err sent host streams off = error_still host
+out_still Kinds.Interrupt true true Heards.Nak sent host streams off = refl
+out_still Kinds.Interrupt false true Heards.Nak sent host streams off = refl
+out_still Kinds.Interrupt true false Heards.Nak sent host streams off = refl
+out_still Kinds.Interrupt false false Heards.Nak sent host streams off = refl
+out_still Kinds.Interrupt true true Heards.Stall sent host streams off = refl
+out_still Kinds.Interrupt false true Heards.Stall sent host streams off = refl
+out_still Kinds.Interrupt true false Heards.Stall sent host streams off = refl
+out_still Kinds.Interrupt false false Heards.Stall sent host streams off = refl
+out_still Kinds.Interrupt true true _ sent host streams off = error_still host
+out_still Kinds.Interrupt false true _ sent host streams off = error_still host
+out_still Kinds.Interrupt true false _ sent host streams off = error_still host
+out_still Kinds.Interrupt false false _ sent host streams off = error_still host
+out_still Kinds.Bulk last b Heards.Nyet sent host streams off = refl
+out_still Kinds.Bulk last true Heards.Nak sent host streams off = refl
+out_still Kinds.Bulk last false Heards.Nak sent host streams off = refl
+out_still Kinds.Bulk last true Heards.Stall sent host streams off = refl
+out_still Kinds.Bulk last false Heards.Stall sent host streams off = refl
+out_still Kinds.Bulk last true _ sent host streams off = error_still host
+out_still Kinds.Bulk last false _ sent host streams off = error_still host
+out_still Kinds.Control last b h sent host streams off = absurd (false≢true streams)
+out_still Kinds.Iso last b h sent host streams off = absurd (false≢true streams)
 
-out_still : (b : Bool) (h : Heard) (sent : ℕ) (host : HostSide) → is_ending h ≡ false → is_moved (out_row b h sent host) ≡ false
-out_still b Heards.Ack sent host off = absurd (false≢true (sym off))
-out_still b Heards.Nak sent host off = absurd (false≢true (sym off))
-out_still b Heards.Stall sent host off = absurd (false≢true (sym off))
-out_still b Heards.Nyet sent host off = refl
-out_still true _ sent host off = error_still host
-out_still false _ sent host off = error_still host
-
-out_waits : (b : Bool) (h : Heard) (sent : ℕ) (host : HostSide) → is_ending h ≡ false → host.waiting ≡ true
-    → (out_after b h sent host).waiting ≡ true
-out_waits b Heards.Ack sent host off on = absurd (false≢true (sym off))
-out_waits b Heards.Nak sent host off on = absurd (false≢true (sym off))
-out_waits b Heards.Stall sent host off on = absurd (false≢true (sym off))
-out_waits b Heards.Nyet sent host off on = on
-out_waits true _ sent host off on = on
-out_waits false _ sent host off on = on
-
+-- an acknowledgement moves the packet; what else is heard moves nothing, whether the host waits on or starts again
 pub data OutSettles (q : Qh) (z : Settlement) : Reply → Type 0 where
   is_acked : z.outcome ≡ Moved (limit_of (host_in q)) → z.host.waiting ≡ false → OutSettles q z (Hand Packets.Ack)
-  is_refused : is_moved z.outcome ≡ false → z.host.waiting ≡ false → OutSettles q z (Hand Packets.Nak)
-  is_stalled : is_moved z.outcome ≡ false → z.host.waiting ≡ false → OutSettles q z (Hand Packets.Stall)
-  goes_on : (r : Reply) → is_moved z.outcome ≡ false → z.host.waiting ≡ true → OutSettles q z r
+  moves_none : (r : Reply) → is_moved z.outcome ≡ false → OutSettles q z r
 
-data_goes_on : (b : Bool) (pid : Pid) (expected : Heard) → is_ending expected ≡ false → is_ending (heard_data b pid expected) ≡ false
-data_goes_on false Packets.Data0 expected off = off
-data_goes_on true Packets.Data1 expected off = off
-data_goes_on _ _ expected off = refl
+data_no_ack : (b : Bool) (pid : Pid) (expected : Heard) → is_ack expected ≡ false → is_ack (heard_data b pid expected) ≡ false
+data_no_ack false Packets.Data0 expected off = off
+data_no_ack true Packets.Data1 expected off = off
+data_no_ack _ _ expected off = refl
 
-fitting_goes_on : (b : Bool) (n : ℕ) → is_ending (if b then Heards.Fitting n else Heards.TooLong) ≡ false
-fitting_goes_on true n = refl
-fitting_goes_on false n = refl
+fitting_no_ack : (b : Bool) (n : ℕ) → is_ack (if b then Heards.Fitting n else Heards.TooLong) ≡ false
+fitting_no_ack true n = refl
+fitting_no_ack false n = refl
 
-module _ (q : Qh) (out : List ℕ) (waits : q.token.split_state ≡ true) where
+module _ (kind : EpKind) (last : Bool) (q : Qh) (out : List ℕ) (streams : has_stream kind ≡ true) where
   abbrev b : Bool
-  b = is_fast (speed_at q.eps)
+  b = is_pinged (speed_at q.eps) kind
 
   abbrev z : Reply → Settlement
-  z reply = settled_by (completing q 0) q out reply
+  z reply = settled_by (completing kind q 0) q out last reply
 
-  token_is : out_token (speed_at q.eps) Kinds.Bulk ≡ out_by b
-  token_is = out_is (speed_at q.eps)
+  token_is : out_token (speed_at q.eps) kind ≡ out_by b
+  token_is = out_is (speed_at q.eps) kind
 
   abbrev outcome_with : AskToken → Heard → Outcome
-  outcome_with t h = complete_outcome (complete_row Kinds.Bulk false h (plain_row t h (limit_of (host_in q)))) (host_in q)
+  outcome_with t h = complete_outcome (complete_row kind last h (plain_row t h (limit_of (host_in q)))) (host_in q)
 
   abbrev host_with : AskToken → Heard → HostSide
-  host_with t h = after_complete (complete_row Kinds.Bulk false h (plain_row t h (limit_of (host_in q)))) (host_in q)
+  host_with t h = after_complete (complete_row kind last h (plain_row t h (limit_of (host_in q)))) (host_in q)
 
-  none_ends : (reply : Reply) → is_ending (heard_of (host_in q) reply) ≡ false → OutSettles q (z reply) reply
-  none_ends reply off =
-      goes_on reply
+  none_moves : (reply : Reply) → is_ack (heard_of (host_in q) reply) ≡ false → OutSettles q (z reply) reply
+  none_moves reply off =
+      moves_none reply
       (ap (λ (t : AskToken). is_moved (outcome_with t (heard_of (host_in q) reply))) token_is
-      ∙ out_still b (heard_of (host_in q) reply) (limit_of (host_in q)) (host_in q) off)
-      (ap (λ (t : AskToken). (host_with t (heard_of (host_in q) reply)).waiting) token_is
-      ∙ out_waits b (heard_of (host_in q) reply) (limit_of (host_in q)) (host_in q) off waits)
+      ∙ out_still kind last b (heard_of (host_in q) reply) (limit_of (host_in q)) (host_in q) streams off)
 
-  acked : (c : Bool) → (outcome_with (out_by c) Heards.Ack ≡ Moved (limit_of (host_in q)))
-      × ((host_with (out_by c) Heards.Ack).waiting ≡ false)
-  acked true = (refl, refl)
-  acked false = (refl, refl)
-
-  refused : (c : Bool) → (is_moved (outcome_with (out_by c) Heards.Nak) ≡ false) × ((host_with (out_by c) Heards.Nak).waiting ≡ false)
-  refused true = (refl, refl)
-  refused false = (refl, refl)
-
-  stalled : (c : Bool) → (is_moved (outcome_with (out_by c) Heards.Stall) ≡ false) × ((host_with (out_by c) Heards.Stall).waiting ≡ false)
-  stalled true = (refl, refl)
-  stalled false = (refl, refl)
+  acked : (k : EpKind) (c l : Bool) → has_stream k ≡ true → (sent : ℕ) (host : HostSide)
+      → (complete_outcome (complete_row k l Heards.Ack (plain_row (out_by c) Heards.Ack sent)) host ≡ Moved sent)
+      × ((after_complete (complete_row k l Heards.Ack (plain_row (out_by c) Heards.Ack sent)) host).waiting ≡ false)
+  acked Kinds.Interrupt true true on sent host = (refl, refl)
+  acked Kinds.Interrupt true false on sent host = (refl, refl)
+  acked Kinds.Interrupt false true on sent host = (refl, refl)
+  acked Kinds.Interrupt false false on sent host = (refl, refl)
+  acked Kinds.Bulk true l on sent host = (refl, refl)
+  acked Kinds.Bulk false l on sent host = (refl, refl)
+  acked Kinds.Control c l on sent host = absurd (false≢true on)
+  acked Kinds.Iso c l on sent host = absurd (false≢true on)
 
   by_hand : (pid : Pid) → OutSettles q (z (Hand pid)) (Hand pid)
   by_hand Packets.Ack =
-      is_acked (ap (λ (t : AskToken). outcome_with t Heards.Ack) token_is ∙ (acked b).0)
-      (ap (λ (t : AskToken). (host_with t Heards.Ack).waiting) token_is ∙ (acked b).1)
-  by_hand Packets.Nak =
-      is_refused (ap (λ (t : AskToken). is_moved (outcome_with t Heards.Nak)) token_is ∙ (refused b).0)
-      (ap (λ (t : AskToken). (host_with t Heards.Nak).waiting) token_is ∙ (refused b).1)
-  by_hand Packets.Stall =
-      is_stalled (ap (λ (t : AskToken). is_moved (outcome_with t Heards.Stall)) token_is ∙ (stalled b).0)
-      (ap (λ (t : AskToken). (host_with t Heards.Stall).waiting) token_is ∙ (stalled b).1)
-  by_hand pid = none_ends (Hand pid) refl
+      let k = acked kind b last streams (limit_of (host_in q)) (host_in q) in
+      is_acked (ap (λ (t : AskToken). outcome_with t Heards.Ack) token_is ∙ k.0)
+      (ap (λ (t : AskToken). (host_with t Heards.Ack).waiting) token_is ∙ k.1)
+  by_hand pid = none_moves (Hand pid) refl
 
   by_reply : (reply : Reply) → OutSettles q (z reply) reply
-  by_reply Silent = none_ends Silent refl
+  by_reply Silent = none_moves Silent refl
   by_reply (Bytes pid bs) =
-      none_ends (Bytes pid bs)
-      (data_goes_on q.token.toggle pid (fitting (length bs) (limit_of (host_in q)))
-      (fitting_goes_on (nat_le (length bs) (limit_of (host_in q))) (length bs)))
+      none_moves (Bytes pid bs)
+      (data_no_ack q.token.toggle pid (fitting (length bs) (limit_of (host_in q)))
+      (fitting_no_ack (nat_le (length bs) (limit_of (host_in q))) (length bs)))
   by_reply (Hand pid) = by_hand pid
 
-pub out_settles : (q : Qh) (out : List ℕ) (reply : Reply) → (q.eps == 2) ≡ false → q.token.split_state ≡ true → q.token.pid ≡ 0
-    → OutSettles q (settlement_as Kinds.Bulk q out false reply) reply
-out_settles q out reply below waits pid =
-    subst (λ (t : Transaction). OutSettles q (settled_by t q out reply) reply) (sym (is_completing q 0 below waits pid))
-    (by_reply q out waits reply)
+pub out_settles : (kind : EpKind) (last : Bool) (q : Qh) (out : List ℕ) (reply : Reply) → has_stream kind ≡ true → (q.eps == 2) ≡ false
+    → q.token.split_state ≡ true → q.token.pid ≡ 0 → OutSettles q (settlement_as kind q out last reply) reply
+out_settles kind last q out reply streams below waits pid =
+    subst (λ (t : Transaction). OutSettles q (settled_by t q out last reply) reply) (sym (is_completing kind q 0 below waits pid))
+    (by_reply kind last q out streams reply)

@@ -28,7 +28,7 @@ use Rattle.law_structures.proofs.lemmas.lent_structures.Members.{still_active}
 use Rattle.law_common.proofs.Numbers.{other_number}
 use Rattle.law_structures.proofs.lemmas.lent_structures.Settling.{a_transaction_settles}
 use Rattle.law_ring.specs.Hand.{Copy, Settlement, Hand, Copied, Settled}
-use Rattle.law_ring.specs.Effects.{buffer_of, AreSent, Makes, counted, settlement_as, Asks, came_to}
+use Rattle.law_ring.specs.Effects.{buffer_of, AreSent, settlement_as, Asks, came_to}
 use Rattle.law_ring.specs.QueueParts.{IsQueuePart}
 use Rattle.law_ring.specs.Told.{hand_toggle, HasToggle, Endpoint, endpoint_of, HasEndpoint, SameTold}
 use Rattle.law_ring.specs.Streams.{moved_bytes, Grows}
@@ -56,7 +56,7 @@ use Rattle.law_below_hubs.specs.HostEvents.{SparesKeyNow, EventKeepsInBehind}
 use Rattle.law_below_hubs.specs.Splits.{IsAtHub}
 use Rattle.law_below_hubs.proofs.HostAsks.{host_toggle, first_still, asks_other}
 use Rattle.law_below_hubs.proofs.HostInBeside.{others_leave_in, begin_leaves_in}
-use Rattle.law_below_hubs.proofs.HostCarries.{HostStays, IsUnmade, HostGoes, makes_own, stays, host_goes}
+use Rattle.law_below_hubs.proofs.HostCarries.{HostStays, IsUnmade, IsMadeBy, by_ring, by_frames, HostGoes, makes_own, stays, host_goes}
 use Rattle.law_below_hubs.proofs.HostIns.{own_in_goes_on}
 use Rattle.law_below_hubs.proofs.HostRests.{own_in_rests, in_none_moved, in_none_got}
 
@@ -72,9 +72,10 @@ module _ (packets : List (List ℕ)) (near : ℕ → Bool) (n : ℕ) (x : Endpoi
     (runs : RunsBoth base member met (both descs parts) hand frame c)
     (effect : BothEffect begins_by transacts_by (both descs parts) c.control hand frame wire after now later frame_later)
     (asked : AskedAreNear near parts (joined hand frame)) (alone : AsksAlone Directions.In near parts n x)
-    (iso : (ask : Ask) → IsIsoAsk (both descs parts) ask → IsOfOther (told_key Directions.In x) ask)
+    (iso : (ask : Ask) → IsIsoAsk (both descs parts) ask → IsOfOther (told_key Kinds.Bulk Directions.In x) ask)
     (unmet : met n ≡ Some AQueue → ⊥) (part_is : IsQueuePart n (parts n)) (part_now : IsQueuePart n (parts_now descs parts now n))
-    (hub_after : IsAtHub after.bus.hubs x.hub x.port i place) (spares : SparesKeyNow (told_key Directions.In x) i place wire after)
+    (hub_after : IsAtHub after.bus.hubs x.hub x.port i place) (spares : SparesKeyNow
+    (told_key Kinds.Bulk Directions.In x) i place wire after)
     (k : IsInBehind packets wire i place known parts (joined hand frame) n x) where
   abbrev one : Hand
   one = joined hand frame
@@ -114,8 +115,11 @@ module _ (packets : List (List ℕ)) (near : ℕ → Bool) (n : ℕ) (x : Endpoi
   head_both : both descs parts n n ≡ Some (QueueHead q)
   head_both = ap (λ (part : Structures). part n) there ∙ k.head
 
-  goes : HostGoes (both descs parts) now one other n wire after
-  goes = host_goes base member met (both descs parts) hand frame c wire after now later frame_later runs n unmet q head_both effect
+  abbrev Made : Asks transacts_by (both descs parts) (joined hand frame) wire after (joined later frame_later) → Type 0
+  Made = IsMadeBy member met (both descs parts) c.control.frame frame frame_later (joined hand frame) (joined later frame_later) wire after
+
+  goes : HostGoes (both descs parts) now one other n wire after Made
+  goes = host_goes base member met (both descs parts) hand frame c wire after now later frame_later runs n q head_both effect
 
   dtc_off : q.dtc ≡ false
   dtc_off = ap (λ (e : Endpoint). e.dtc) (sym k.is) ∙ k.own
@@ -124,7 +128,7 @@ module _ (packets : List (List ℕ)) (near : ℕ → Bool) (n : ℕ) (x : Endpoi
   had = record { queue = q; head = k.head; own = dtc_off; is = host_toggle one n q }
 
   finish : (ys : List ℕ) (r : Qh) → parts_then n n ≡ Some (QueueHead r) → x ≡ endpoint_of r → RestsToStart (hand_host other n r)
-      → InSide packets (told_key Directions.In x) i place after (hand_host other n r).toggle (hand_host other n r).waiting
+      → InSide packets (told_key Kinds.Bulk Directions.In x) i place after (hand_host other n r).toggle (hand_host other n r).waiting
       (not (hand_host other n r).halted) ys → Behind ys
   finish ys r here is rests in_side = record {
     queue = r;
@@ -142,15 +146,15 @@ module _ (packets : List (List ℕ)) (near : ℕ → Bool) (n : ℕ) (x : Endpoi
   -- ---- no transaction of it
 
   abbrev InAfter : List ℕ → Type 0
-  InAfter ys = InSide packets (told_key Directions.In x) i place after side.toggle side.waiting (not side.halted) ys
+  InAfter ys = InSide packets (told_key Kinds.Bulk Directions.In x) i place after side.toggle side.waiting (not side.halted) ys
 
   on_off : (b : Bool) → not b ≡ true → b ≡ false
   on_off false e = refl
   on_off true e = absurd (false≢true e)
 
   with_going : (v : Wired) (h waiting one_goes then_goes : Bool) (ys : List ℕ) → (then_goes ≡ true → one_goes ≡ true)
-      → InSide packets (told_key Directions.In x) i place v h waiting one_goes ys
-      → InSide packets (told_key Directions.In x) i place v h waiting then_goes ys
+      → InSide packets (told_key Kinds.Bulk Directions.In x) i place v h waiting one_goes ys
+      → InSide packets (told_key Kinds.Bulk Directions.In x) i place v h waiting then_goes ys
   with_going v h waiting one_goes then_goes ys goes_too s = record {
     line = s.line;
     wait = s.wait;
@@ -166,7 +170,7 @@ module _ (packets : List (List ℕ)) (near : ℕ → Bool) (n : ℕ) (x : Endpoi
   }
 
   quiet : HostStays (both descs parts) now one other n → HasToggle other parts_then n side.toggle → HasEndpoint parts_then n x
-      → InSide packets (told_key Directions.In x) i place after side.toggle side.waiting (not side.halted) known → Behind known
+      → InSide packets (told_key Kinds.Bulk Directions.In x) i place after side.toggle side.waiting (not side.halted) known → Behind known
   quiet still has named in_side =
       let r : Qh = has.queue in
       let is : x ≡ endpoint_of r = named.is ∙ ap endpoint_of (found_queue (parts_then n n) named.queue r named.head has.head) in
@@ -177,16 +181,17 @@ module _ (packets : List (List ℕ)) (near : ℕ → Bool) (n : ℕ) (x : Endpoi
       (with_going after (hand_host other n r).toggle (hand_host other n r).waiting (not side.halted)
       (not (hand_host other n r).halted) known
       (λ on. ap not (z.halted (on_off (hand_host other n r).halted on)))
-      (subst (λ (b : Bool). InSide packets (told_key Directions.In x) i place after b (hand_host other n r).waiting
+      (subst (λ (b : Bool). InSide packets (told_key Kinds.Bulk Directions.In x) i place after b (hand_host other n r).waiting
       (not side.halted) known) toggle
-      (subst (λ (b : Bool). InSide packets (told_key Directions.In x) i place after side.toggle b (not side.halted) known) (sym z.waiting)
+      (subst (λ (b : Bool). InSide packets (told_key Kinds.Bulk Directions.In x) i place after side.toggle b (not side.halted) known)
+      (sym z.waiting)
       in_side)))
 
   nothing_more : (ys : List ℕ) → ys ≡ [] → Behind known → Behind (known ++ ys)
   nothing_more ys none b = subst Behind (sym (ap (λ (zs : List ℕ). known ++ zs) none ∙ append-nil known)) b
 
   told_quiet : HostStays (both descs parts) now one other n → SameTold one parts other parts_then
-      → InSide packets (told_key Directions.In x) i place after side.toggle side.waiting (not side.halted) known → Behind known
+      → InSide packets (told_key Kinds.Bulk Directions.In x) i place after side.toggle side.waiting (not side.halted) known → Behind known
   told_quiet still told s =
       quiet still (told.toggle n side.toggle had) (told.endpoint n x (record { queue = q; head = k.head; is = k.is })) s
 
@@ -197,13 +202,15 @@ module _ (packets : List (List ℕ)) (near : ℕ → Bool) (n : ℕ) (x : Endpoi
         let b = alone m.copy.at (asked m.copy m.in_hand m.here m.works) differs in
         let is : b.0 ≡ endpoint_of m.copy.queue = b.1.is
         ∙ ap endpoint_of (found_queue (parts m.copy.at m.copy.at) b.1.queue m.copy.queue b.1.head m.here) in
-        let else_asked : IsOfOther (told_key Directions.In x) (call_in (transaction_of m.kind m.copy.queue) m.out m.last).ask =
-        asks_other Directions.In (parts m.copy.at) m.copy.at m.copy.queue m.kind m.out m.last x b.0 m.part_is m.here m.works is b.2 in
+        let else_asked : IsOfOther (told_key Kinds.Bulk Directions.In x) (call_in (transaction_of m.kind m.copy.queue) m.out m.last).ask =
+        asks_other Kinds.Bulk Directions.In (parts m.copy.at) m.copy.at m.copy.queue m.kind m.out m.last x b.0 m.part_is m.here m.works is
+        b.2 in
         quiet still
         (subst (λ (ps : StructureSets). HasToggle other ps n side.toggle) (sym all)
         (g.other_toggles n side.toggle (λ (at : n ≡ m.copy.at). differs (sym at)) had))
         (subst (λ (ps : StructureSets). HasEndpoint ps n x) (sym all) (record { queue = q; head = k.head; is = k.is }))
-        (others_leave_in packets (told_key Directions.In x) i place wire (call_in (transaction_of m.kind m.copy.queue) m.out m.last).ask
+        (others_leave_in packets (told_key Kinds.Bulk Directions.In x) i place wire (call_in
+        (transaction_of m.kind m.copy.queue) m.out m.last).ask
         (call_in (transaction_of m.kind m.copy.queue) m.out m.last).out m.reply after side.toggle side.waiting
         (not side.halted) known refl refl
         else_asked
@@ -216,20 +223,22 @@ module _ (packets : List (List ℕ)) (near : ℕ → Bool) (n : ℕ) (x : Endpoi
     still_by (begun index allowed begins told) =
         nothing_more [] refl
         (told_quiet still told
-        (subst (λ (v : Wired). InSide packets (told_key Directions.In x) i place v side.toggle side.waiting (not side.halted) known)
+        (subst (λ (v : Wired). InSide packets (told_key Kinds.Bulk Directions.In x) i place v side.toggle side.waiting
+        (not side.halted) known)
         (sym begins.1)
-        (begin_leaves_in packets (told_key Directions.In x) i place index wire side.toggle side.waiting
+        (begin_leaves_in packets (told_key Kinds.Bulk Directions.In x) i place index wire side.toggle side.waiting
         (not side.halted) known refl k.side)))
     still_by (moved (same told quiet_wire)) =
         nothing_more [] refl
         (told_quiet still told
-        (subst (λ (v : Wired). InSide packets (told_key Directions.In x) i place v side.toggle side.waiting (not side.halted) known)
+        (subst (λ (v : Wired). InSide packets (told_key Kinds.Bulk Directions.In x) i place v side.toggle side.waiting
+        (not side.halted) known)
         (sym quiet_wire)
         k.side))
     still_by (moved (aside told ask out reply is_iso made)) =
         nothing_more [] refl
         (told_quiet still told
-        (others_leave_in packets (told_key Directions.In x) i place wire ask out reply after side.toggle side.waiting
+        (others_leave_in packets (told_key Kinds.Bulk Directions.In x) i place wire ask out reply after side.toggle side.waiting
         (not side.halted) known refl
         refl (iso ask is_iso) (spares ask out reply made) made k.side))
     still_by (moved (grows m all g)) =
@@ -244,10 +253,12 @@ module _ (packets : List (List ℕ)) (near : ℕ → Bool) (n : ℕ) (x : Endpoi
 
   -- ---- its own transaction
 
-  module _ (m : Makes transacts_by (both descs parts) one wire after other) (at : m.copy.at ≡ n)
-      (here : both descs parts m.copy.at m.copy.at ≡ Some (QueueHead m.copy.queue)) (all : now ≡ both descs parts) where
+  module _ (m : Asks transacts_by (both descs parts) (joined hand frame) wire after (joined later frame_later)) (at : m.copy.at ≡ n)
+      (all : now ≡ both descs parts)
+      (makes : IsMadeBy member met (both descs parts) c.control.frame frame frame_later (joined hand frame) (joined later frame_later) wire
+      after m) where
     queue_is : m.copy.queue ≡ q
-    queue_is = found_queue (both descs parts n n) m.copy.queue q (ap (λ (j : ℕ). both descs parts j j) (sym at) ∙ here) head_both
+    queue_is = found_queue (both descs parts n n) m.copy.queue q (ap (λ (j : ℕ). both descs parts j j) (sym at) ∙ m.here) head_both
 
     works : q.token.active ≡ true
     works = ap (λ (y : Qh). y.token.active) (sym queue_is) ∙ m.works
@@ -262,28 +273,34 @@ module _ (packets : List (List ℕ)) (near : ℕ → Bool) (n : ℕ) (x : Endpoi
       goes_on = working.goes_on;
     }
 
-    abbrev kind_is : (kind_at m.copy.queue.dtc ≡ Kinds.Bulk)
-    kind_is = ap kind_at (ap (λ (y : Qh). y.dtc) queue_is ∙ dtc_off)
+    -- the ring makes it
+    kinds_are : (m.kind ≡ Kinds.Bulk) × (m.last ≡ false)
+    kinds_are = by makes
+      where
+        by : Made m → (m.kind ≡ Kinds.Bulk) × (m.last ≡ false)
+        by (by_ring on kind_at_is never) = (kind_at_is ∙ ap kind_at (ap (λ (y : Qh). y.dtc) queue_is ∙ dtc_off), never)
+        by (by_frames on framed r one_copy) = absurd (unmet (ap met (sym at) ∙ on))
 
     -- what is known of the transaction, by the queue head and its kind
-    record IsMade (y : Qh) (kind : EpKind) : Type 0 where
+    record IsMade (y : Qh) (kind : EpKind) (last : Bool) : Type 0 where
       sent : AreSent (parts n) y (transaction_of kind y).bytes m.out
-      made : transacts_by wire (call_in (transaction_of kind y) m.out false).ask
-          (call_in (transaction_of kind y) m.out false).out m.reply after
-      left : other ≡ Settled (counted m.copy m.out m.reply) (settlement_as kind y m.out false m.reply)
+      made : transacts_by wire (call_in (transaction_of kind y) m.out last).ask
+          (call_in (transaction_of kind y) m.out last).out m.reply after
+      left : other ≡ Settled m.held (settlement_as kind y m.out last m.reply)
       element : sent.element ≡ m.sent.element
 
-    is_made : IsMade q Kinds.Bulk
+    is_made : IsMade q Kinds.Bulk false
     is_made =
-        subst (λ (y : Qh). IsMade y Kinds.Bulk) queue_is
-        (subst (IsMade m.copy.queue) kind_is
+        subst (λ (y : Qh). IsMade y Kinds.Bulk false) queue_is
+        (subst (IsMade m.copy.queue Kinds.Bulk) kinds_are.1
+        (subst (λ (x : EpKind). IsMade m.copy.queue x m.last) kinds_are.0
         (record {
           sent = record {
             element = m.sent.element;
             here = ap (λ (part : Structures). part m.copy.queue.current) (sym there)
                 ∙ ap (λ (j : ℕ). both descs parts j m.copy.queue.current) (sym at) ∙ m.sent.here;
             are = m.sent.are
-                ∙ ap (λ (part : Structures). take (transaction_of (kind_at m.copy.queue.dtc) m.copy.queue).bytes
+                ∙ ap (λ (part : Structures). take (transaction_of m.kind m.copy.queue).bytes
                 (drop (buffer_place m.copy.queue - m.sent.element.offset) (buffer_of part m.sent.element)))
                 (ap (both descs parts) at ∙ there);
             all = m.sent.all;
@@ -291,13 +308,10 @@ module _ (packets : List (List ℕ)) (near : ℕ → Bool) (n : ℕ) (x : Endpoi
           made = m.made;
           left = m.later_is;
           element = refl;
-        }))
+        })))
 
     abbrev z : Settlement
     z = settlement_as Kinds.Bulk k.queue m.out false m.reply
-
-    abbrev held : Copy
-    held = counted m.copy m.out m.reply
 
     abbrev bytes : List ℕ
     bytes = moved_bytes k.queue is_made.sent.element (settlement_as Kinds.Bulk k.queue m.out false m.reply)
@@ -308,19 +322,19 @@ module _ (packets : List (List ℕ)) (near : ℕ → Bool) (n : ℕ) (x : Endpoi
 
     behind : (settlement_as Kinds.Bulk k.queue m.out false m.reply).host ≡ hand_host other n q
     behind = sym (ap (λ (l : Hand). hand_host l n q) is_made.left
-        ∙ ap (λ (b : Bool). if b then z.host else host_in q) (eq-eqb held.at n at))
+        ∙ ap (λ (b : Bool). if b then z.host else host_in q) (eq-eqb m.held.at n (m.at_same ∙ at)))
 
     abbrev Side : HostSide → Wired → List ℕ → Type 0
-    Side host v ys = InSide packets (told_key Directions.In x) i place v host.toggle host.waiting (not host.halted) ys
+    Side host v ys = InSide packets (told_key Kinds.Bulk Directions.In x) i place v host.toggle host.waiting (not host.halted) ys
 
     side_then : Side z.host after (known ++ bytes)
     side_then =
         subst (λ (key : Key). InSide packets key i place after z.host.toggle z.host.waiting (not z.host.halted) (known ++ bytes))
-        (sym (ap (told_key Directions.In) k.is))
+        (sym (ap (told_key Kinds.Bulk Directions.In) k.is))
         (own_in_goes_on packets (parts n) q i place wire after known m.out m.reply below
         (subst (λ (e : Endpoint). IsAtHub wire.bus.hubs e.hub e.port i place) k.is k.hub) is_made.sent is_made.made
         (subst (λ (key : Key). InSide packets key i place wire q.token.toggle q.token.split_state (not q.token.halted) known)
-        (ap (told_key Directions.In) k.is)
+        (ap (told_key Kinds.Bulk Directions.In) k.is)
         (subst (λ (host : HostSide). Side host wire known) before k.side)))
 
     part_same : parts_then n ≡ parts n
@@ -350,7 +364,7 @@ module _ (packets : List (List ℕ)) (near : ℕ → Bool) (n : ℕ) (x : Endpoi
     told_none told =
         let has : HasToggle other parts_then n side.toggle = told.toggle n side.toggle had in
         let now_toggle : side.toggle ≡ z.host.toggle = has.is ∙ ap (λ (l : Hand). hand_toggle l n has.queue) is_made.left
-        ∙ ap (λ (b : Bool). if b then z.host.toggle else has.queue.token.toggle) (eq-eqb held.at n at) in
+        ∙ ap (λ (b : Bool). if b then z.host.toggle else has.queue.token.toggle) (eq-eqb m.held.at n (m.at_same ∙ at)) in
         in_none_moved q is_made.sent.element z (buffer_of (parts n) is_made.sent.element) below.inward
         (in_none_got q m.out m.reply below.inward is_made.sent.all
         (unturned (sym now_toggle ∙ ap (λ (host : HostSide). host.toggle) before)))
@@ -362,7 +376,7 @@ module _ (packets : List (List ℕ)) (near : ℕ → Bool) (n : ℕ) (x : Endpoi
         let copy : a.copy ≡ m.copy = copies a.copy m.copy (sym a.in_hand ∙ m.in_hand) in
         let there_too : a.copy.at ≡ n = ap (λ (y : Copy). y.at) copy ∙ at in
         let queue : a.copy.queue ≡ q = ap (λ (y : Copy). y.queue) copy ∙ queue_is in
-        let came : came_to a ≡ z = settlements a.held held (came_to a) z (sym a.later_is ∙ is_made.left) in
+        let came : came_to a ≡ z = settlements a.held m.held (came_to a) z (sym a.later_is ∙ is_made.left) in
         let element : a.sent.element ≡ is_made.sent.element =
         found_element (parts n q.current) a.sent.element is_made.sent.element
         (ap (λ (y : Qh). parts n y.current) (sym queue) ∙ ap (λ (j : ℕ). parts j a.copy.queue.current) (sym there_too) ∙ a.sent.here)
@@ -392,10 +406,10 @@ module _ (packets : List (List ℕ)) (near : ℕ → Bool) (n : ℕ) (x : Endpoi
         → Behind (known ++ bytes_of_both n z)
     own_by z = subst (λ (ys : List ℕ). Behind (known ++ ys)) (sym (as_told z)) own
 
-  goes_by : HostGoes (both descs parts) now one other n wire after
+  goes_by : HostGoes (both descs parts) now one other n wire after Made
       → (z : BothStreamEffect begins_by (IsIsoAsk (both descs parts)) transacts_by parts one wire after parts_then other)
       → Behind (known ++ bytes_of_both n z)
-  goes_by (makes_own m at here all) z = own_by m at here all z
+  goes_by (makes_own m at all makes) z = own_by m at all makes z
   goes_by (stays still unmade) z = still_by still unmade z
 
   pub goes_on_so : (z : BothStreamEffect begins_by (IsIsoAsk (both descs parts)) transacts_by parts one wire after parts_then other)

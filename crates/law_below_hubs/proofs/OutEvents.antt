@@ -1,7 +1,7 @@
--- Each event of the controller leaves a bulk OUT endpoint below a hub as it must stand.
+-- Each event of the controller leaves a bulk or interrupt OUT endpoint below a hub as it must stand.
 use Rattle.std.proofs.Common.{◌≡◌, ◌≢◌, ℕ, ◌==◌, ◌-◌, Bool, true, false, not, if◌then◌else◌, List, [], ◌++◌, take, drop, Option, Some}
 use Rattle.std.proofs.Common.{ap, refl, sym, subst, ◌∙◌, ⊎_elim}
-use Rattle.std.proofs.lemmas.Bool.{cases_eq, eq-eqb}
+use Rattle.std.proofs.lemmas.Bool.{cases_eq, eq-eqb, false≢true}
 use Rattle.std.proofs.lemmas.List.{append-nil}
 use Rattle.usb_base.specs.declared.packets.Ask.{Ask}
 use Rattle.usb_base.specs.declared.packets.Dir.TheVariants as Directions
@@ -19,6 +19,7 @@ use Rattle.hc_copy.specs.Transacting.{call_in}
 use Rattle.async_walk.specs.Naks.{kind_at}
 use Rattle.hc_core.specs.Controller.{Content}
 use Rattle.claims_base.specs.Controller.{Base}
+use Rattle.claims_report.specs.Streams.{has_stream}
 use Rattle.law_structures.specs.lent_structures.Settles.{is_moved, Settles}
 use Rattle.law_structures.specs.lent_structures.Structures.{QueueHead, Structures, StructureSets}
 use Rattle.law_structures.specs.lent_structures.Alters.{Alters}
@@ -27,7 +28,7 @@ use Rattle.law_structures.proofs.lemmas.lent_structures.Altering.{found_queue, f
 use Rattle.law_common.proofs.Numbers.{other_number}
 use Rattle.law_structures.proofs.lemmas.lent_structures.Settling.{a_transaction_settles}
 use Rattle.law_ring.specs.Hand.{Copy, Settlement, Hand, Copied, Settled}
-use Rattle.law_ring.specs.Effects.{buffer_of, AreSent, Makes, counted, settlement_as, Asks, came_to}
+use Rattle.law_ring.specs.Effects.{buffer_of, AreSent, settlement_as, Asks, came_to}
 use Rattle.law_ring.specs.QueueParts.{IsQueuePart}
 use Rattle.law_ring.specs.Told.{hand_toggle, HasToggle, Endpoint, endpoint_of, HasEndpoint, SameTold}
 use Rattle.law_ring.specs.Streams.{moved_bytes, Grows}
@@ -37,7 +38,7 @@ use Rattle.law_ring.specs.OutPipes.{IsOut, OutAgrees}
 use Rattle.law_common.proofs.Booleans.{not_itself}
 use Rattle.law_ring.proofs.Transporting.{out_still}
 use Rattle.law_controller.specs.controlled_streams.Kept.{KeepsEach}
-use Rattle.law_frames.specs.Met.{Kind, AQueue}
+use Rattle.law_frames.specs.Met.{Kind}
 use Rattle.law_frames.specs.FrameHand.{FrameHand}
 use Rattle.law_frames.specs.FrameStreams.{IsIsoAsk}
 use Rattle.law_controller.specs.frame_control.Both.{RunsBoth, BothEffect}
@@ -51,25 +52,27 @@ use Rattle.law_descriptors.proofs.Standing.{both_off}
 use Rattle.law_descriptors.proofs.Telling.{queue_off}
 use Rattle.law_descriptors.proofs.lemmas.queue_events.Events.{both_keeps_structures}
 use Rattle.law_descriptors.proofs.lemmas.queue_events.Carrying.{walks_carry}
-use Rattle.law_below_hubs.specs.HostOuts.{out_key, shadow, OutSide, OutHost, IsOutBelow, IsOfOther}
-use Rattle.law_below_hubs.specs.HostEvents.{hand_host, RestsToStart, StartsFirst, told_key, IsOutBehind, AsksAlone, EventKeepsOutBehind}
-use Rattle.law_below_hubs.specs.HostEvents.{KeepsSent, sends_none, makes_one}
+use Rattle.law_below_hubs.specs.HostOuts.{out_key, shadow, FindsNoneTold, OutSide, OutHost, IsOutBelow, IsOfOther}
+use Rattle.law_below_hubs.specs.HostEvents.{hand_host, RestsToStart, StartsFirst, told_key, IsOutBehind, AsksAlone, IsWalkedAs}
+use Rattle.law_below_hubs.specs.HostEvents.{StartsFindNoneTold, EventKeepsOutBehind, KeepsSent, sends_none, makes_one}
 use Rattle.law_below_hubs.specs.Splits.{IsAtHub}
 use Rattle.law_below_hubs.proofs.HostAsks.{host_toggle, first_still, asks_other}
 use Rattle.law_below_hubs.proofs.HostBeside.{others_leave_out, begin_leaves_out}
-use Rattle.law_below_hubs.proofs.HostCarries.{HostStays, IsUnmade, HostGoes, makes_own, stays, host_goes}
+use Rattle.law_below_hubs.proofs.HostCarries.{HostStays, IsUnmade, IsMadeBy, by_ring, by_frames, HostGoes, makes_own, stays, host_goes}
 use Rattle.law_below_hubs.proofs.HostOuts.{own_out_goes_on}
 use Rattle.law_below_hubs.proofs.HostRests.{own_out_rests, out_none_moved}
 
-module _ (near : ℕ → Bool) (n : ℕ) (x : Endpoint) (i place : ℕ) (known : List ℕ) (base : Base) (member : ℕ → Bool)
+module _ (kind : EpKind) (near : ℕ → Bool) (n : ℕ) (x : Endpoint) (i place : ℕ) (known : List ℕ) (base : Base) (member : ℕ → Bool)
     (met : ℕ → Option Kind) (d : DriverContent) (descs parts : StructureSets) (hand : Hand) (frame : FrameHand) (c : Content)
     (wire after : Wired) (now : StructureSets) (later : Hand) (frame_later : FrameHand) (describing : IsDescribing d descs parts)
     (runs : RunsBoth base member met (both descs parts) hand frame c)
     (effect : BothEffect begins_by transacts_by (both descs parts) c.control hand frame wire after now later frame_later)
     (asked : AskedAreNear near parts (joined hand frame)) (alone : AsksAlone Directions.Out near parts n x)
-    (iso : (ask : Ask) → IsIsoAsk (both descs parts) ask → IsOfOther (told_key Directions.Out x) ask)
-    (unmet : met n ≡ Some AQueue → ⊥) (part_is : IsQueuePart n (parts n)) (part_now : IsQueuePart n (parts_now descs parts now n))
-    (hub_after : IsAtHub after.bus.hubs x.hub x.port i place) (k : IsOutBehind wire i place known parts (joined hand frame) n x) where
+    (iso : (ask : Ask) → IsIsoAsk (both descs parts) ask → IsOfOther (told_key kind Directions.Out x) ask)
+    (streams : has_stream kind ≡ true) (walked : IsWalkedAs kind member met n)
+    (fresh : StartsFindNoneTold kind x i place n (both descs parts) c.control.frame frame wire after frame_later)
+    (part_is : IsQueuePart n (parts n)) (part_now : IsQueuePart n (parts_now descs parts now n))
+    (hub_after : IsAtHub after.bus.hubs x.hub x.port i place) (k : IsOutBehind kind wire i place known parts (joined hand frame) n x) where
   abbrev one : Hand
   one = joined hand frame
 
@@ -86,7 +89,7 @@ module _ (near : ℕ → Bool) (n : ℕ) (x : Endpoint) (i place : ℕ) (known :
   side = hand_host (joined hand frame) n k.queue
 
   abbrev Behind : List ℕ → Type 0
-  Behind ys = IsOutBehind after i place ys (parts_now descs parts now) (joined later frame_later) n x
+  Behind ys = IsOutBehind kind after i place ys (parts_now descs parts now) (joined later frame_later) n x
 
   -- ---- its part
 
@@ -108,8 +111,11 @@ module _ (near : ℕ → Bool) (n : ℕ) (x : Endpoint) (i place : ℕ) (known :
   head_both : both descs parts n n ≡ Some (QueueHead q)
   head_both = ap (λ (part : Structures). part n) there ∙ k.head
 
-  goes : HostGoes (both descs parts) now one other n wire after
-  goes = host_goes base member met (both descs parts) hand frame c wire after now later frame_later runs n unmet q head_both effect
+  abbrev Made : Asks transacts_by (both descs parts) (joined hand frame) wire after (joined later frame_later) → Type 0
+  Made = IsMadeBy member met (both descs parts) c.control.frame frame frame_later (joined hand frame) (joined later frame_later) wire after
+
+  goes : HostGoes (both descs parts) now one other n wire after Made
+  goes = host_goes base member met (both descs parts) hand frame c wire after now later frame_later runs n q head_both effect
 
   dtc_off : q.dtc ≡ false
   dtc_off = ap (λ (e : Endpoint). e.dtc) (sym k.is) ∙ k.own
@@ -117,11 +123,11 @@ module _ (near : ℕ → Bool) (n : ℕ) (x : Endpoint) (i place : ℕ) (known :
   had : HasToggle one parts n side.toggle
   had = record { queue = q; head = k.head; own = dtc_off; is = host_toggle one n q }
 
-  key_is : out_key q ≡ told_key Directions.Out x
-  key_is = sym (ap (told_key Directions.Out) k.is)
+  key_is : out_key kind q ≡ told_key kind Directions.Out x
+  key_is = sym (ap (told_key kind Directions.Out) k.is)
 
   finish : (ys : List ℕ) (r : Qh) → parts_then n n ≡ Some (QueueHead r) → x ≡ endpoint_of r → RestsToStart (hand_host other n r)
-      → (host : OutHost (parts_then n) other n r i place after (hand_host other n r).toggle (hand_host other n r).waiting ys)
+      → (host : OutHost kind (parts_then n) other n r i place after (hand_host other n r).toggle (hand_host other n r).waiting ys)
       → (b : Behind ys) × (b.host.next ≡ host.next)
   finish ys r here is rests host = (
     record {
@@ -162,7 +168,7 @@ module _ (near : ℕ → Bool) (n : ℕ) (x : Endpoint) (i place : ℕ) (known :
       (subst (λ (part : Structures). OutAgrees part one n q side.toggle known s) (sym there) agrees))
 
   quiet : HostStays (both descs parts) now one other n → HasToggle other parts_then n side.toggle → HasEndpoint parts_then n x
-      → OutSide (told_key Directions.Out x) i place after side.toggle side.waiting known k.host.next
+      → OutSide (told_key kind Directions.Out x) i place after side.toggle side.waiting known k.host.next
       → (b : Behind known) × (b.host.next ≡ k.host.next)
   quiet still has named out_side =
       let r : Qh = has.queue in
@@ -173,15 +179,15 @@ module _ (near : ℕ → Bool) (n : ℕ) (x : Endpoint) (i place : ℕ) (known :
       finish known r has.head is z.rests
       (record {
         next = k.host.next;
-        side = subst (λ (b : Bool). OutSide (out_key r) i place after b (hand_host other n r).waiting known k.host.next) toggle
-            (subst (λ (b : Bool). OutSide (out_key r) i place after side.toggle b known k.host.next) (sym z.waiting)
+        side = subst (λ (b : Bool). OutSide (out_key kind r) i place after b (hand_host other n r).waiting known k.host.next) toggle
+            (subst (λ (b : Bool). OutSide (out_key kind r) i place after side.toggle b known k.host.next) (sym z.waiting)
             (subst (λ (key : Key). OutSide key i place after side.toggle side.waiting known k.host.next)
-            (ap (told_key Directions.Out) is) out_side));
+            (ap (told_key kind Directions.Out) is) out_side));
         agrees = subst (λ (b : Bool). OutAgrees (parts_then n) other n r b known (shadow b known k.host.next)) toggle
             (carries (shadow side.toggle known k.host.next) r has.head has k.host.agrees);
       })
 
-  out_side : OutSide (told_key Directions.Out x) i place wire side.toggle side.waiting known k.host.next
+  out_side : OutSide (told_key kind Directions.Out x) i place wire side.toggle side.waiting known k.host.next
   out_side = subst (λ (key : Key). OutSide key i place wire side.toggle side.waiting known k.host.next) key_is k.host.side
 
   nothing_more : (ys : List ℕ) → ys ≡ [] → (b : Behind known) × (b.host.next ≡ k.host.next) → After (known ++ ys) ys
@@ -189,7 +195,7 @@ module _ (near : ℕ → Bool) (n : ℕ) (x : Endpoint) (i place : ℕ) (known :
       subst (λ (all : List ℕ). After all ys) (sym (ap (λ (zs : List ℕ). known ++ zs) none ∙ append-nil known)) (b.0, sends_none b.1 none)
 
   told_quiet : HostStays (both descs parts) now one other n → SameTold one parts other parts_then
-      → OutSide (told_key Directions.Out x) i place after side.toggle side.waiting known k.host.next
+      → OutSide (told_key kind Directions.Out x) i place after side.toggle side.waiting known k.host.next
       → (b : Behind known) × (b.host.next ≡ k.host.next)
   told_quiet still told s =
       quiet still (told.toggle n side.toggle had) (told.endpoint n x (record { queue = q; head = k.head; is = k.is })) s
@@ -201,14 +207,15 @@ module _ (near : ℕ → Bool) (n : ℕ) (x : Endpoint) (i place : ℕ) (known :
         let b = alone m.copy.at (asked m.copy m.in_hand m.here m.works) differs in
         let is : b.0 ≡ endpoint_of m.copy.queue = b.1.is
         ∙ ap endpoint_of (found_queue (parts m.copy.at m.copy.at) b.1.queue m.copy.queue b.1.head m.here) in
-        let else_asked : IsOfOther (told_key Directions.Out x) (call_in (transaction_of m.kind m.copy.queue) m.out m.last).ask =
-        asks_other Directions.Out (parts m.copy.at) m.copy.at m.copy.queue m.kind m.out m.last x b.0 m.part_is m.here m.works is b.2 in
+        let else_asked : IsOfOther (told_key kind Directions.Out x) (call_in (transaction_of m.kind m.copy.queue) m.out m.last).ask =
+        asks_other kind Directions.Out (parts m.copy.at) m.copy.at m.copy.queue m.kind m.out m.last x b.0 m.part_is m.here m.works is b.2 in
         quiet still
         (subst (λ (ps : StructureSets). HasToggle other ps n side.toggle) (sym all)
         (g.other_toggles n side.toggle (λ (at : n ≡ m.copy.at). differs (sym at)) had))
         (subst (λ (ps : StructureSets). HasEndpoint ps n x) (sym all) (record { queue = q; head = k.head; is = k.is }))
-        (others_leave_out (told_key Directions.Out x) i place wire (call_in (transaction_of m.kind m.copy.queue) m.out m.last).ask
-        (call_in (transaction_of m.kind m.copy.queue) m.out m.last).out m.reply after side.toggle side.waiting known k.host.next refl refl
+        (others_leave_out (told_key kind Directions.Out x) i place wire (call_in (transaction_of m.kind m.copy.queue) m.out m.last).ask
+        (call_in (transaction_of m.kind m.copy.queue) m.out m.last).out m.reply after side.toggle side.waiting known k.host.next refl
+        streams
         else_asked m.made out_side)
 
     still_by : (z : BothStreamEffect begins_by (IsIsoAsk (both descs parts)) transacts_by parts one wire after parts_then other)
@@ -216,17 +223,19 @@ module _ (near : ℕ → Bool) (n : ℕ) (x : Endpoint) (i place : ℕ) (known :
     still_by (begun index allowed begins told) =
         nothing_more [] refl
         (told_quiet still told
-        (subst (λ (v : Wired). OutSide (told_key Directions.Out x) i place v side.toggle side.waiting known k.host.next) (sym begins.1)
-        (begin_leaves_out (told_key Directions.Out x) i place index wire side.toggle side.waiting known k.host.next refl out_side)))
+        (subst (λ (v : Wired). OutSide (told_key kind Directions.Out x) i place v side.toggle side.waiting known k.host.next) (sym begins.1)
+        (begin_leaves_out (told_key kind Directions.Out x) i place index wire side.toggle side.waiting known k.host.next refl out_side)))
     still_by (moved (same told quiet_wire)) =
         nothing_more [] refl
         (told_quiet still told
-        (subst (λ (v : Wired). OutSide (told_key Directions.Out x) i place v side.toggle side.waiting known k.host.next) (sym quiet_wire)
+        (subst (λ (v : Wired). OutSide (told_key kind Directions.Out x) i place v side.toggle side.waiting known k.host.next)
+        (sym quiet_wire)
         out_side))
     still_by (moved (aside told ask out reply is_iso made)) =
         nothing_more [] refl
         (told_quiet still told
-        (others_leave_out (told_key Directions.Out x) i place wire ask out reply after side.toggle side.waiting known k.host.next refl refl
+        (others_leave_out (told_key kind Directions.Out x) i place wire ask out reply after side.toggle side.waiting known k.host.next
+        refl streams
         (iso ask is_iso) made out_side))
     still_by (moved (grows m all g)) =
         ⊎_elim
@@ -240,10 +249,12 @@ module _ (near : ℕ → Bool) (n : ℕ) (x : Endpoint) (i place : ℕ) (known :
 
   -- ---- its own transaction
 
-  module _ (m : Makes transacts_by (both descs parts) one wire after other) (at : m.copy.at ≡ n)
-      (here : both descs parts m.copy.at m.copy.at ≡ Some (QueueHead m.copy.queue)) (all : now ≡ both descs parts) where
+  module _ (m : Asks transacts_by (both descs parts) (joined hand frame) wire after (joined later frame_later)) (at : m.copy.at ≡ n)
+      (all : now ≡ both descs parts)
+      (makes : IsMadeBy member met (both descs parts) c.control.frame frame frame_later (joined hand frame) (joined later frame_later) wire
+      after m) where
     queue_is : m.copy.queue ≡ q
-    queue_is = found_queue (both descs parts n n) m.copy.queue q (ap (λ (j : ℕ). both descs parts j j) (sym at) ∙ here) head_both
+    queue_is = found_queue (both descs parts n n) m.copy.queue q (ap (λ (j : ℕ). both descs parts j j) (sym at) ∙ m.here) head_both
 
     works : q.token.active ≡ true
     works = ap (λ (y : Qh). y.token.active) (sym queue_is) ∙ m.works
@@ -258,20 +269,43 @@ module _ (near : ℕ → Bool) (n : ℕ) (x : Endpoint) (i place : ℕ) (known :
       works = works;
     }
 
-    abbrev kind_is : (kind_at m.copy.queue.dtc ≡ Kinds.Bulk)
-    kind_is = ap kind_at (ap (λ (y : Qh). y.dtc) queue_is ∙ dtc_off)
+    -- it is made by the walk that meets the queue head
+    kind_is : m.kind ≡ kind
+    kind_is = by kind refl makes
+      where
+        by : (y : EpKind) → kind ≡ y → Made m → m.kind ≡ kind
+        by Kinds.Bulk is (by_ring on kind_at_is never) =
+            kind_at_is ∙ ap kind_at (ap (λ (y : Qh). y.dtc) queue_is ∙ dtc_off) ∙ sym is
+        by Kinds.Bulk is (by_frames on framed r one_copy) =
+            absurd (subst (λ (y : EpKind). IsWalkedAs y member met n) is walked (ap met (sym at) ∙ on))
+        by Kinds.Interrupt is (by_ring on kind_at_is never) =
+            absurd (subst (λ (y : EpKind). IsWalkedAs y member met n) is walked (ap member (sym at) ∙ on))
+        by Kinds.Interrupt is (by_frames on framed r one_copy) = framed ∙ sym is
+        by Kinds.Control is made_so = absurd (false≢true (ap has_stream (sym is) ∙ streams))
+        by Kinds.Iso is made_so = absurd (false≢true (ap has_stream (sym is) ∙ streams))
+
+    finds : kind ≡ Kinds.Interrupt → q.token.split_state ≡ false → FindsNoneTold (out_key kind q) i place wire
+    finds is state = by makes
+      where
+        by : Made m → FindsNoneTold (out_key kind q) i place wire
+        by (by_ring on kind_at_is never) =
+            absurd (subst (λ (y : EpKind). IsWalkedAs y member met n) is walked (ap member (sym at) ∙ on))
+        by (by_frames on framed r one_copy) =
+            subst (λ (key : Key). FindsNoneTold key i place wire) (sym key_is)
+            (fresh is r (ap (λ (e : Copy). e.at) one_copy ∙ at)
+            (ap (λ (e : Copy). e.queue.token.split_state) one_copy ∙ ap (λ (y : Qh). y.token.split_state) queue_is ∙ state))
 
     -- what is known of the transaction, by the queue head and its kind
-    record IsMade (y : Qh) (kind : EpKind) : Type 0 where
-      sent : AreSent (parts n) y (transaction_of kind y).bytes m.out
-      made : transacts_by wire (call_in (transaction_of kind y) m.out false).ask
-          (call_in (transaction_of kind y) m.out false).out m.reply after
-      left : other ≡ Settled (counted m.copy m.out m.reply) (settlement_as kind y m.out false m.reply)
+    record IsMade (y : Qh) (its : EpKind) : Type 0 where
+      sent : AreSent (parts n) y (transaction_of its y).bytes m.out
+      made : transacts_by wire (call_in (transaction_of its y) m.out m.last).ask
+          (call_in (transaction_of its y) m.out m.last).out m.reply after
+      left : other ≡ Settled m.held (settlement_as its y m.out m.last m.reply)
       element : sent.element ≡ m.sent.element
 
-    is_made : IsMade q Kinds.Bulk
+    is_made : IsMade q kind
     is_made =
-        subst (λ (y : Qh). IsMade y Kinds.Bulk) queue_is
+        subst (λ (y : Qh). IsMade y kind) queue_is
         (subst (IsMade m.copy.queue) kind_is
         (record {
           sent = record {
@@ -279,7 +313,7 @@ module _ (near : ℕ → Bool) (n : ℕ) (x : Endpoint) (i place : ℕ) (known :
             here = ap (λ (part : Structures). part m.copy.queue.current) (sym there)
                 ∙ ap (λ (j : ℕ). both descs parts j m.copy.queue.current) (sym at) ∙ m.sent.here;
             are = m.sent.are
-                ∙ ap (λ (part : Structures). take (transaction_of (kind_at m.copy.queue.dtc) m.copy.queue).bytes
+                ∙ ap (λ (part : Structures). take (transaction_of m.kind m.copy.queue).bytes
                 (drop (buffer_place m.copy.queue - m.sent.element.offset) (buffer_of part m.sent.element)))
                 (ap (both descs parts) at ∙ there);
             all = m.sent.all;
@@ -290,27 +324,24 @@ module _ (near : ℕ → Bool) (n : ℕ) (x : Endpoint) (i place : ℕ) (known :
         }))
 
     abbrev z : Settlement
-    z = settlement_as Kinds.Bulk k.queue m.out false m.reply
-
-    abbrev held : Copy
-    held = counted m.copy m.out m.reply
+    z = settlement_as kind k.queue m.out m.last m.reply
 
     abbrev bytes : List ℕ
-    bytes = moved_bytes k.queue is_made.sent.element (settlement_as Kinds.Bulk k.queue m.out false m.reply)
+    bytes = moved_bytes k.queue is_made.sent.element (settlement_as kind k.queue m.out m.last m.reply)
         (buffer_of (parts n) is_made.sent.element)
 
     before : side ≡ host_in q
     before = ap (λ (l : Hand). hand_host l n q) m.in_hand
 
-    behind : (settlement_as Kinds.Bulk k.queue m.out false m.reply).host ≡ hand_host other n q
+    behind : (settlement_as kind k.queue m.out m.last m.reply).host ≡ hand_host other n q
     behind = sym (ap (λ (l : Hand). hand_host l n q) is_made.left
-        ∙ ap (λ (b : Bool). if b then z.host else host_in q) (eq-eqb held.at n at))
+        ∙ ap (λ (b : Bool). if b then z.host else host_in q) (eq-eqb m.held.at n (m.at_same ∙ at)))
 
-    host_then : OutHost (parts n) other n q i place after z.host.toggle z.host.waiting (known ++ bytes)
+    host_then : OutHost kind (parts n) other n q i place after z.host.toggle z.host.waiting (known ++ bytes)
     host_then =
-        own_out_goes_on (parts n) one other n held q i place wire after known m.out m.reply below
-        (subst (λ (e : Endpoint). IsAtHub wire.bus.hubs e.hub e.port i place) k.is k.hub) is_made.sent is_made.made is_made.left
-        (subst (λ (host : HostSide). OutHost (parts n) one n q i place wire host.toggle host.waiting known) before k.host)
+        own_out_goes_on kind m.last (parts n) one other n m.held q i place wire after known m.out m.reply streams below
+        (subst (λ (e : Endpoint). IsAtHub wire.bus.hubs e.hub e.port i place) k.is k.hub) is_made.sent is_made.made is_made.left finds
+        (subst (λ (host : HostSide). OutHost kind (parts n) one n q i place wire host.toggle host.waiting known) before k.host)
 
     part_same : parts_then n ≡ parts n
     part_same = sym now_is ∙ ap (λ (ps : StructureSets). ps n) all ∙ there
@@ -318,22 +349,23 @@ module _ (near : ℕ → Bool) (n : ℕ) (x : Endpoint) (i place : ℕ) (known :
     own : After (known ++ bytes) bytes
     own =
         let f = finish (known ++ bytes) q (ap (λ (part : Structures). part n) part_same ∙ k.head) k.is
-        (subst RestsToStart behind (own_out_rests q m.out m.reply below is_made.sent.all))
-        (subst (λ (part : Structures). OutHost part other n q i place after (hand_host other n q).toggle (hand_host other n q).waiting
+        (subst RestsToStart behind (own_out_rests kind m.last q m.out m.reply streams below is_made.sent.all))
+        (subst (λ (part : Structures). OutHost kind part other n q i place after (hand_host other n q).toggle (hand_host other n q).waiting
         (known ++ bytes)) (sym part_same)
-        (subst (λ (host : HostSide). OutHost (parts n) other n q i place after host.toggle host.waiting (known ++ bytes)) behind host_then))
+        (subst (λ (host : HostSide). OutHost kind (parts n) other n q i place after host.toggle host.waiting
+        (known ++ bytes)) behind host_then))
         in
         (f.0, makes_one works part_same)
 
     -- the bytes that it moved are those that are told
-    settled_so : Settles Kinds.Bulk q m.out false m.reply
-    settled_so = a_transaction_settles Kinds.Bulk q m.out false m.reply is_made.sent.all
+    settled_so : Settles kind q m.out m.last m.reply
+    settled_so = a_transaction_settles kind q m.out m.last m.reply is_made.sent.all
 
     unturned : z.host.toggle ≡ q.token.toggle → is_moved z.outcome ≡ false
     unturned same_one = by (is_moved z.outcome) refl
       where
-        by : (b : Bool) → is_moved (settlement_as Kinds.Bulk k.queue m.out false m.reply).outcome ≡ b
-            → is_moved (settlement_as Kinds.Bulk k.queue m.out false m.reply).outcome ≡ false
+        by : (b : Bool) → is_moved (settlement_as kind k.queue m.out m.last m.reply).outcome ≡ b
+            → is_moved (settlement_as kind k.queue m.out m.last m.reply).outcome ≡ false
         by false still = still
         by true on =
             absurd (not_itself q.token.toggle (sym same_one ∙ settled_so.host.toggle
@@ -343,7 +375,7 @@ module _ (near : ℕ → Bool) (n : ℕ) (x : Endpoint) (i place : ℕ) (known :
     told_none told =
         let has : HasToggle other parts_then n side.toggle = told.toggle n side.toggle had in
         let now_toggle : side.toggle ≡ z.host.toggle = has.is ∙ ap (λ (l : Hand). hand_toggle l n has.queue) is_made.left
-        ∙ ap (λ (b : Bool). if b then z.host.toggle else has.queue.token.toggle) (eq-eqb held.at n at) in
+        ∙ ap (λ (b : Bool). if b then z.host.toggle else has.queue.token.toggle) (eq-eqb m.held.at n (m.at_same ∙ at)) in
         out_none_moved q is_made.sent.element z (buffer_of (parts n) is_made.sent.element) below.out
         (unturned (sym now_toggle ∙ ap (λ (host : HostSide). host.toggle) before))
 
@@ -354,7 +386,7 @@ module _ (near : ℕ → Bool) (n : ℕ) (x : Endpoint) (i place : ℕ) (known :
         let copy : a.copy ≡ m.copy = copies a.copy m.copy (sym a.in_hand ∙ m.in_hand) in
         let there_too : a.copy.at ≡ n = ap (λ (y : Copy). y.at) copy ∙ at in
         let queue : a.copy.queue ≡ q = ap (λ (y : Copy). y.queue) copy ∙ queue_is in
-        let came : came_to a ≡ z = settlements a.held held (came_to a) z (sym a.later_is ∙ is_made.left) in
+        let came : came_to a ≡ z = settlements a.held m.held (came_to a) z (sym a.later_is ∙ is_made.left) in
         let element : a.sent.element ≡ is_made.sent.element =
         found_element (parts n q.current) a.sent.element is_made.sent.element
         (ap (λ (y : Qh). parts n y.current) (sym queue) ∙ ap (λ (j : ℕ). parts j a.copy.queue.current) (sym there_too) ∙ a.sent.here)
@@ -384,10 +416,10 @@ module _ (near : ℕ → Bool) (n : ℕ) (x : Endpoint) (i place : ℕ) (known :
         → After (known ++ bytes_of_both n z) (bytes_of_both n z)
     own_by z = subst (λ (ys : List ℕ). After (known ++ ys) ys) (sym (as_told z)) own
 
-  goes_by : HostGoes (both descs parts) now one other n wire after
+  goes_by : HostGoes (both descs parts) now one other n wire after Made
       → (z : BothStreamEffect begins_by (IsIsoAsk (both descs parts)) transacts_by parts one wire after parts_then other)
       → After (known ++ bytes_of_both n z) (bytes_of_both n z)
-  goes_by (makes_own m at here all) z = own_by m at here all z
+  goes_by (makes_own m at all makes) z = own_by m at all makes z
   goes_by (stays still unmade) z = still_by still unmade z
 
   pub goes_on_so : (z : BothStreamEffect begins_by (IsIsoAsk (both descs parts)) transacts_by parts one wire after parts_then other)
@@ -395,7 +427,7 @@ module _ (near : ℕ → Bool) (n : ℕ) (x : Endpoint) (i place : ℕ) (known :
   goes_on_so z = goes_by goes z
 
 pub event_keeps_out_behind : EventKeepsOutBehind
-event_keeps_out_behind near n x i place known base member met d descs parts hand frame c wire after now later frame_later describing
-    runs effect asked alone iso unmet part_is part_now hub_after z k =
-    goes_on_so near n x i place known base member met d descs parts hand frame c wire after now later frame_later describing
-    runs effect asked alone iso unmet part_is part_now hub_after k z
+event_keeps_out_behind kind near n x i place known base member met d descs parts hand frame c wire after now later frame_later describing
+    runs effect asked alone iso streams walked fresh part_is part_now hub_after z k =
+    goes_on_so kind near n x i place known base member met d descs parts hand frame c wire after now later frame_later describing
+    runs effect asked alone iso streams walked fresh part_is part_now hub_after k z

@@ -7,14 +7,14 @@ use Rattle.qh_qtd.specs.declared.qtd.Qtd.{Qtd}
 use Rattle.law_structures.specs.lent_structures.Structures.{QueueHead, Element}
 use Rattle.law_ring.specs.Bus.{Sender}
 use Rattle.law_ring.specs.OutPipes.{level}
-use Rattle.law_translated.specs.Lift.{Buffered, Wait, Idle, Waits, Empty, Asked, There, At}
+use Rattle.law_translated.specs.Lift.{Buffered, Wait, Waits, Empty, Asked, There, At}
 use Rattle.law_translated.specs.InPipes.{in_halves, in_claims}
 use Rattle.law_translated.specs.KeyEvents.{mapped}
 use Rattle.law_translated.specs.KeySlots.{KeySlot}
-use Rattle.law_translated.specs.OutPipes.{out_opening, out_halves, out_claims}
-use Rattle.law_below_hubs.specs.HostOuts.{IsWait, starts, completes, too_late}
+use Rattle.law_translated.specs.OutPipes.{out_opening}
+use Rattle.law_below_hubs.specs.HostIns.{IsWait, completes, too_late}
+use Rattle.law_below_hubs.specs.HostOuts.{OutAt, out_slot}
 use Rattle.law_below_hubs.specs.InWork.{in_asked, in_answer}
-use Rattle.law_below_hubs.specs.OutWork.{out_asked, out_answer}
 use Rattle.law_below_hubs.specs.WorkedBelow as inward
 use Rattle.law_below_hubs.specs.WorkedHosts.{Opens, Starts, ResultComes, UnsentBreaks, ReadStarts, NoStreamBreaks, queue_at, part_of}
 use Rattle.law_below_hubs.specs.WorkedHosts.{IsBelow, HighBreaks}
@@ -25,9 +25,7 @@ use Rattle.law_below_hubs.proofs.WorkedPut.{start_is_taken, result_is_there}
 pub opens : Opens
 opens = record {
   line = out_opening;
-  wait = Idle;
   slot = Empty;
-  is_wait = starts;
   knows = refl;
   sends = refl;
   rest = refl;
@@ -43,36 +41,29 @@ opens = record {
   );
   right = ((record { first = tt; second = tt; entries = tt }, tt), tt);
   taker = refl;
-  holds = record { at = record { near = inl refl; sends_parity = refl; expects_parity = refl }; aside = tt };
+  holds = record { near = inl refl; sends_parity = refl; expects_parity = refl };
 }
 
 pub starts_so : Starts
 starts_so = record {
   line = before;
-  wait = Waits;
   slot = Asked taken;
-  is_wait = completes;
   knows = refl;
   sends = refl;
   rest = refl;
   has = start_is_taken.has;
   right = start_is_taken.right;
   taker = refl;
-  holds = record {
-    at = (
-      record { parity = refl; later = []; rest = refl },
-      record { near = inl refl; sends_parity = refl; expects_parity = refl },
-    );
-    aside = tt;
-  };
+  holds = (
+    record { parity = refl; later = []; rest = refl },
+    record { near = inl refl; sends_parity = refl; expects_parity = refl },
+  );
 }
 
 pub result_comes : ResultComes
 result_comes = record {
   line = after;
-  wait = Waits;
   slot = There taken (Hand Packets.Ack);
-  is_wait = completes;
   knows = refl;
   sends = refl;
   rest = refl;
@@ -80,30 +71,24 @@ result_comes = record {
   right = ((record { first = tt; second = tt; entries = tt }, tt), tt);
   taker = refl;
   holds = record {
-    at = record {
-      is = record { parity = refl; later = []; rest = refl };
-      agrees = record {
-        near = inr (record { next = one_byte; later = []; rest = refl; taken = refl });
-        sends_parity = refl;
-        expects_parity = refl;
-      };
-      ahead = record { next = one_byte; later = []; rest = refl; taken = refl };
+    is = record { parity = refl; later = []; rest = refl };
+    agrees = record {
+      near = inr (record { next = one_byte; later = []; rest = refl; taken = refl });
+      sends_parity = refl;
+      expects_parity = refl;
     };
-    aside = tt;
+    ahead = record { next = one_byte; later = []; rest = refl; taken = refl };
   };
 }
 
 pub unsent_breaks : UnsentBreaks
-unsent_breaks o = by o.wait o.slot o.is_wait (sym o.has.0.0.slot.is) o.holds.at
+unsent_breaks o = by o.slot (sym o.has.0.0.slot.is) o.holds
   where
-    by : (u : Wait) (s : KeySlot) → IsWait true u → s ≡ Asked taken → At out_halves out_claims Buffered
-        (mapped out_asked out_answer s) u o.line
-        → ⊥
-    by u s is at h = asked u is (subst (λ (x : KeySlot). At out_halves out_claims Buffered (mapped out_asked out_answer x) u o.line) at h)
-      where
-        asked : (v : Wait) → IsWait true v → At out_halves out_claims Buffered (mapped out_asked out_answer (Asked taken)) v o.line → ⊥
-        asked _ completes both = let e : one_byte ∷ both.0.later ≡ [] = sym both.0.rest ∙ o.rest in cc
-        asked _ too_late none = none
+    by : (s : KeySlot) → s ≡ Asked taken → OutAt (out_slot s) true o.line → ⊥
+    by s is at =
+        let both : OutAt (out_slot (Asked taken)) true o.line = subst (λ (x : KeySlot). OutAt (out_slot x) true o.line) is at in
+        let e : one_byte ∷ both.0.later ≡ [] = sym both.0.rest ∙ o.rest in
+        cc
 
 pub read_starts : ReadStarts
 read_starts = record {

@@ -18,7 +18,7 @@ use Rattle.law_translated.specs.Windows.{Line, window_halves}
 use Rattle.law_below_hubs.specs.SeatedControls.{control_at}
 use Rattle.law_below_hubs.specs.HubsKeys.{HubsHave, AreRightHubs}
 use Rattle.law_below_hubs.specs.ControlAsks.{IsRequestAsk}
-use Rattle.law_below_hubs.specs.ControlWork.{control_call, control_answer, control_key, IsInTurn, AnswerFits}
+use Rattle.law_below_hubs.specs.ControlWork.{control_call, control_answer, control_key, IsInTurn, AnswerFits, IsWorked}
 
 abbrev pub turned : Dir → Dir
 turned Directions.In = Directions.Out
@@ -34,6 +34,7 @@ QuietIsInTurn = (e : Endpoint) (r : Request) (dir : Dir) (hub place : ℕ) (asid
 pub record RequestWorkOf (e : Endpoint) (r : Request) (dir : Dir) (hub place : ℕ) (s aside : KeySlot) (l : Line) (u : Wait) (v : Wired)
     : Type 0 where
   pub line : Line
+  pub works : IsWorked e s l line
   pub slot : KeySlot
   pub control : control_at v e.addr e.num ≡ Some (device_of e line.window.device)
   pub has : HubsHave Buffered (control_key e dir) hub place v.bus.hubs slot

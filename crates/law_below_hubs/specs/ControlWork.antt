@@ -2,6 +2,7 @@
 -- events of the machine of its request, in the direction that the host asks in.
 --     IsInTurn                all that is asked of the endpoint is asked in this direction
 --     AnswerFits              data that the translator acknowledges are data that the host could take
+--     IsWorked e s l m        the device makes the transaction that is asked, or none
 --     ControlWorkIsEvents     the law
 use Rattle.std.specs.Prelude.{◌≡◌, ◌≢◌, ℕ, false, length, Some}
 use Rattle.usb_base.specs.Acknowledgement.{acknowledges}
@@ -18,6 +19,7 @@ use Rattle.hub_keys.specs.Asks.{classic_of}
 use Rattle.hub_keys.specs.Keys.{direction_of}
 use Rattle.hub_keys.specs.declared.key.Key.{Key}
 use Rattle.tt_bulk.specs.Contents.{Taken}
+use Rattle.bus_wire.specs.declared.who_heard.WhoHeard.{WhoHeard}
 use Rattle.bus_wire.specs.Bus.{Wired, begin_after}
 use Rattle.claims_report.specs.Requests.{Request}
 use Rattle.law_request.specs.Host.{Endpoint}
@@ -26,7 +28,7 @@ use Rattle.law_devices.specs.request_calls.Bus.{device_of}
 use Rattle.law_translated.specs.Lift.{Buffered, Wait, Slot, Empty, Asked, Hidden, There, Told, Run}
 use Rattle.law_translated.specs.KeySlots.{KeySlot}
 use Rattle.law_translated.specs.KeyEvents.{with_slot}
-use Rattle.law_translated.specs.Windows.{Line, window_halves}
+use Rattle.law_translated.specs.Windows.{Line, worked, window_halves}
 use Rattle.law_below_hubs.specs.SeatedControls.{control_at}
 use Rattle.law_below_hubs.specs.HubsKeys.{HubsHave, AreRightHubs}
 
@@ -61,11 +63,17 @@ AnswerFits e (Hidden a r) l = Unit {0}
 AnswerFits e (There a r) l = Unit {0}
 AnswerFits e (Told a r) l = Unit {0}
 
+-- whoever hears what of it
+pub data IsWorked (e : Endpoint) (s : KeySlot) (l : Line) : Line → Type 0 where
+  rests : IsWorked e s l l
+  makes : (a : Taken) (row : WhoHeard) → s ≡ Asked a → IsWorked e s l (worked e row (control_call a) l)
+
 -- ---- the law
 
 pub record ControlWorkOf (e : Endpoint) (r : Request) (dir : Dir) (hub place : ℕ) (s : KeySlot) (l : Line) (u : Wait)
     (aside : Slot Call Reply) (v : Wired) : Type 0 where
   pub line : Line
+  pub works : IsWorked e s l line
   pub slot : KeySlot
   pub control : control_at v e.addr e.num ≡ Some (device_of e line.window.device)
   pub has : HubsHave Buffered (control_key e dir) hub place v.bus.hubs slot

@@ -1,21 +1,26 @@
--- A bulk endpoint below a hub at an event of the controller, whichever walk it is of (EHCI 1.0, 4.8 to 4.12; USB 2.0, 8.6 and 11.17).
+-- An endpoint with a stream, below a hub, at an event of the controller, whichever walk it is of (EHCI 1.0, 4.8 to 4.12; USB 2.0, 8.6,
+-- 11.17 and 11.18).
 --     hand_host hand n q       the host's side of the queue head q at n, which a transaction left that isn't written back, or its overlay
 --     RestsToStart host        a host that rests, and isn't halted, starts next
 --     StartsFirst part         each published qTD begins with a start-split
 --     IsHostLike before now    an event that makes no transaction leaves it so
 --     IsApart hand n           no transaction of the queue head at n is to be written back
---     told_key dir x           the key of an endpoint that a queue head tells
---     IsOutBehind, IsInBehind  the queue head at n is that of a bulk endpoint below the hub, and host, hub and device stand as they must
+--     told_key kind dir x      the key of an endpoint of this kind that a queue head tells
+--     IsOutBehind, IsInBehind  the queue head at n is that of an OUT endpoint of this kind below the hub, or of a bulk IN endpoint, and
+--                              host, hub and device stand as they must
 --     AsksElse dir part x y    a queue head of the endpoint y asks not x, or only in the other direction
 --     AsksAlone dir near parts n x     so does each other queue head that is met
 --     KeepsSent ..             no transaction of the queue head is made, and the packet that was sent last stays; or one is, which leaves
 --                              its structures
+--     IsWalkedAs kind ..       the frames meet a queue head of this kind, or the ring does
+--     StartsFindNoneTold ..    where the frames make a start-split of it, the hub's pipeline has nothing of the key that was told
 --     EventKeepsOutBehind, EventKeepsInBehind     each event keeps it so
 use Rattle.std.specs.Prelude.{◌≡◌, ◌≢◌, ℕ, ◌⊎◌, ◌==◌, Bool, true, false, not, List, [], ◌++◌, Option, Some}
 use Rattle.std.specs.Prelude.{if◌then◌else◌}
 use Rattle.usb_base.specs.declared.packets.Ask.{Ask}
 use Rattle.usb_base.specs.declared.packets.Dir.{Dir}
 use Rattle.usb_base.specs.declared.packets.Dir.TheVariants as Directions
+use Rattle.usb_base.specs.declared.packets.EpKind.{EpKind}
 use Rattle.usb_base.specs.declared.packets.EpKind.TheVariants as Kinds
 use Rattle.usb_base.specs.declared.packets.Reply.{Reply}
 use Rattle.hub_keys.specs.declared.key.Key.{Key}
@@ -26,7 +31,9 @@ use Rattle.drv_table.specs.DriverContent.{DriverContent}
 use Rattle.toggle_error.specs.declared.host.HostSide.{HostSide}
 use Rattle.hc_copy.specs.Planning.{host_in}
 use Rattle.hc_core.specs.Controller.{Content}
+use Rattle.periodic_walk.specs.Walk.{Walk}
 use Rattle.claims_base.specs.Controller.{Base}
+use Rattle.claims_report.specs.Streams.{has_stream}
 use Rattle.law_structures.specs.lent_structures.Structures.{QueueHead, Element, Structures, StructureSets}
 use Rattle.law_ring.specs.Hand.{Copy, Settlement, Hand, Empty, Copied, Settled, Stale}
 use Rattle.law_ring.specs.QueueParts.{IsQueuePart}
@@ -34,6 +41,7 @@ use Rattle.law_ring.specs.Told.{Endpoint, endpoint_of, HasEndpoint}
 use Rattle.law_ring.specs.OutPipes.{IsOut}
 use Rattle.law_ring.specs.Pipes.{IsIn}
 use Rattle.law_frames.specs.Met.{Kind, AQueue}
+use Rattle.law_frames.specs.FrameEffects.{MakesOfQueue}
 use Rattle.law_frames.specs.FrameHand.{FrameHand}
 use Rattle.law_frames.specs.FrameStreams.{IsIsoAsk}
 use Rattle.law_controller.specs.frame_control.Both.{RunsBoth, BothEffect}
@@ -44,7 +52,7 @@ use Rattle.law_descriptors.specs.PartLaws.{IsDescribing}
 use Rattle.law_descriptors.specs.queue_events.Streams.{bytes_of_both}
 use Rattle.law_descriptors.specs.queue_events.Pipes.{AskedAreNear}
 use Rattle.law_below_hubs.specs.HostIns.{InSide, SparesKey}
-use Rattle.law_below_hubs.specs.HostOuts.{OutHost, IsOfOther}
+use Rattle.law_below_hubs.specs.HostOuts.{FindsNoneTold, OutHost, IsOfOther}
 use Rattle.law_below_hubs.specs.Splits.{IsAtHub}
 
 -- ---- the host's side
@@ -72,10 +80,10 @@ IsApart hand n = (c : Copy) (z : Settlement) → hand ≡ Settled c z → c.at �
 
 -- ---- the pipe
 
-abbrev pub told_key : Dir → Endpoint → Key
-told_key dir x = record { addr = x.addr; ep = x.ep; dir = dir; kind = Kinds.Bulk }
+abbrev pub told_key : EpKind → Dir → Endpoint → Key
+told_key kind dir x = record { addr = x.addr; ep = x.ep; dir = dir; kind = kind }
 
-pub record IsOutBehind (w : Wired) (i place : ℕ) (known : List ℕ) (parts : StructureSets) (hand : Hand) (n : ℕ)
+pub record IsOutBehind (kind : EpKind) (w : Wired) (i place : ℕ) (known : List ℕ) (parts : StructureSets) (hand : Hand) (n : ℕ)
     (x : Endpoint) : Type 0 where
   pub queue : Qh
   pub head : parts n n ≡ Some (QueueHead queue)
@@ -87,7 +95,7 @@ pub record IsOutBehind (w : Wired) (i place : ℕ) (known : List ℕ) (parts : S
   pub first : StartsFirst (parts n)
   pub rests : RestsToStart (hand_host hand n queue)
   pub hub : IsAtHub w.bus.hubs x.hub x.port i place
-  pub host : OutHost (parts n) hand n queue i place w (hand_host hand n queue).toggle (hand_host hand n queue).waiting known
+  pub host : OutHost kind (parts n) hand n queue i place w (hand_host hand n queue).toggle (hand_host hand n queue).waiting known
 
 -- where the host hasn't halted, both ends agree in the packets
 pub record IsInBehind (packets : List (List ℕ)) (w : Wired) (i place : ℕ) (known : List ℕ) (parts : StructureSets) (hand : Hand) (n : ℕ)
@@ -101,7 +109,7 @@ pub record IsInBehind (packets : List (List ℕ)) (w : Wired) (i place : ℕ) (k
   pub first : StartsFirst (parts n)
   pub rests : RestsToStart (hand_host hand n queue)
   pub hub : IsAtHub w.bus.hubs x.hub x.port i place
-  pub side : InSide packets (told_key Directions.In x) i place w (hand_host hand n queue).toggle (hand_host hand n queue).waiting
+  pub side : InSide packets (told_key Kinds.Bulk Directions.In x) i place w (hand_host hand n queue).toggle (hand_host hand n queue).waiting
       (not (hand_host hand n queue).halted) known
 
 -- ---- who asks
@@ -122,21 +130,32 @@ pub data KeepsSent (part now : Structures) (works : Bool) (next later : Option (
   sends_none : later ≡ next → bytes ≡ [] → KeepsSent part now works next later bytes
   makes_one : works ≡ true → now ≡ part → KeepsSent part now works next later bytes
 
+-- an interrupt's is of a chain of the frames, a bulk endpoint's of the ring (3.6, 4.6 and 4.8)
+abbrev pub IsWalkedAs : EpKind → (ℕ → Bool) → (ℕ → Option Kind) → ℕ → Type 0
+IsWalkedAs Kinds.Interrupt member met n = member n ≡ true → ⊥
+IsWalkedAs _ member met n = met n ≡ Some AQueue → ⊥
+
+abbrev pub StartsFindNoneTold : EpKind → Endpoint → ℕ → ℕ → ℕ → StructureSets → Walk → FrameHand → Wired → Wired → FrameHand → Type 0
+StartsFindNoneTold kind x i place n all walk frame wire after later = kind ≡ Kinds.Interrupt
+    → (r : MakesOfQueue transacts_by all walk frame wire after later) → r.copy.at ≡ n → r.copy.queue.token.split_state ≡ false
+    → FindsNoneTold (told_key kind Directions.Out x) i place wire
+
 -- where the hub keeps its address and its translators
 abbrev pub EventKeepsOutBehind : Type 0
-EventKeepsOutBehind = (near : ℕ → Bool) (n : ℕ) (x : Endpoint) (i place : ℕ) (known : List ℕ) (base : Base) (member : ℕ → Bool)
-    (met : ℕ → Option Kind) (d : DriverContent) (descs parts : StructureSets) (hand : Hand) (frame : FrameHand) (c : Content)
-    (wire after : Wired) (now : StructureSets) (later : Hand) (frame_later : FrameHand) → IsDescribing d descs parts
+EventKeepsOutBehind = (kind : EpKind) (near : ℕ → Bool) (n : ℕ) (x : Endpoint) (i place : ℕ) (known : List ℕ) (base : Base)
+    (member : ℕ → Bool) (met : ℕ → Option Kind) (d : DriverContent) (descs parts : StructureSets) (hand : Hand) (frame : FrameHand)
+    (c : Content) (wire after : Wired) (now : StructureSets) (later : Hand) (frame_later : FrameHand) → IsDescribing d descs parts
     → RunsBoth base member met (both descs parts) hand frame c
     → BothEffect begins_by transacts_by (both descs parts) c.control hand frame wire after now later frame_later
     → AskedAreNear near parts (joined hand frame) → AsksAlone Directions.Out near parts n x
-    → ((ask : Ask) → IsIsoAsk (both descs parts) ask → IsOfOther (told_key Directions.Out x) ask)
-    → (met n ≡ Some AQueue → ⊥) → IsQueuePart n (parts n) → IsQueuePart n (parts_now descs parts now n)
-    → IsAtHub after.bus.hubs x.hub x.port i place
+    → ((ask : Ask) → IsIsoAsk (both descs parts) ask → IsOfOther (told_key kind Directions.Out x) ask)
+    → has_stream kind ≡ true → IsWalkedAs kind member met n
+    → StartsFindNoneTold kind x i place n (both descs parts) c.control.frame frame wire after frame_later
+    → IsQueuePart n (parts n) → IsQueuePart n (parts_now descs parts now n) → IsAtHub after.bus.hubs x.hub x.port i place
     → (z : BothStreamEffect begins_by (IsIsoAsk (both descs parts)) transacts_by parts (joined hand frame) wire after
     (parts_now descs parts now) (joined later frame_later))
-    → (k : IsOutBehind wire i place known parts (joined hand frame) n x)
-    → (b : IsOutBehind after i place (known ++ bytes_of_both n z) (parts_now descs parts now) (joined later frame_later) n x)
+    → (k : IsOutBehind kind wire i place known parts (joined hand frame) n x)
+    → (b : IsOutBehind kind after i place (known ++ bytes_of_both n z) (parts_now descs parts now) (joined later frame_later) n x)
     × KeepsSent (parts n) (parts_now descs parts now n) k.queue.token.active k.host.next b.host.next (bytes_of_both n z)
 
 -- no request is made that takes the key from a hub
@@ -152,9 +171,9 @@ EventKeepsInBehind = (packets : List (List ℕ)) (near : ℕ → Bool) (n : ℕ)
     → RunsBoth base member met (both descs parts) hand frame c
     → BothEffect begins_by transacts_by (both descs parts) c.control hand frame wire after now later frame_later
     → AskedAreNear near parts (joined hand frame) → AsksAlone Directions.In near parts n x
-    → ((ask : Ask) → IsIsoAsk (both descs parts) ask → IsOfOther (told_key Directions.In x) ask)
+    → ((ask : Ask) → IsIsoAsk (both descs parts) ask → IsOfOther (told_key Kinds.Bulk Directions.In x) ask)
     → (met n ≡ Some AQueue → ⊥) → IsQueuePart n (parts n) → IsQueuePart n (parts_now descs parts now n)
-    → IsAtHub after.bus.hubs x.hub x.port i place → SparesKeyNow (told_key Directions.In x) i place wire after
+    → IsAtHub after.bus.hubs x.hub x.port i place → SparesKeyNow (told_key Kinds.Bulk Directions.In x) i place wire after
     → (z : BothStreamEffect begins_by (IsIsoAsk (both descs parts)) transacts_by parts (joined hand frame) wire after
     (parts_now descs parts now) (joined later frame_later))
     → IsInBehind packets wire i place known parts (joined hand frame) n x

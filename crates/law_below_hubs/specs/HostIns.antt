@@ -1,5 +1,6 @@
 -- The host of a bulk IN endpoint below a hub, the device, and what the hub has of their key (EHCI 1.0, 4.10 and 4.12; USB 2.0, 8.6 and
 -- 11.17): each transaction of the host, and the work of the hubs where a microframe begins, leaves them as they must stand.
+--     IsWait waiting u       whether the host waits, by its split state; what it waits for may be gone from the hub
 --     InSide ..              host, hub and device stand as they must, where these bytes came
 --     OwnInGoesOn            the host's transactions
 --     OthersLeaveIn          those of all other hosts, but for requests to a hub that clear its buffers
@@ -22,20 +23,26 @@ use Rattle.law_structures.specs.lent_structures.Structures.{Structures}
 use Rattle.law_ring.specs.Effects.{buffer_of, AreSent, settlement_as}
 use Rattle.law_ring.specs.Streams.{moved_bytes}
 use Rattle.law_devices.specs.scripted_requests.Controls.{transacts_by}
-use Rattle.law_translated.specs.Lift.{Buffered, Wait, Empty, Holds}
+use Rattle.law_translated.specs.Lift.{Buffered, Wait, Empty, Holds, Idle, Waits, Late}
 use Rattle.law_translated.specs.InPipes.{Line, in_halves, in_claims, InSplit}
 use Rattle.law_translated.specs.KeySlots.{KeySlot}
 use Rattle.law_translated.specs.KeyEvents.{with_slot}
 use Rattle.law_below_hubs.specs.Seated.{sender_at}
 use Rattle.law_below_hubs.specs.HubsKeys.{HubsHave, IsOfKind, AreRightHubs}
-use Rattle.law_below_hubs.specs.HostOuts.{IsWait, bulk_key, IsOfOther}
+use Rattle.law_below_hubs.specs.HostOuts.{queue_key, IsOfOther}
 use Rattle.law_below_hubs.specs.InWork.{in_asked, in_answer, sender_of_line}
 use Rattle.law_below_hubs.specs.Splits.{IsAtHub}
 
 abbrev pub in_key : Qh → Key
-in_key q = bulk_key Directions.In q
+in_key q = queue_key Kinds.Bulk Directions.In q
 
 -- ---- how they stand
+
+-- Do-Start, or Do-Complete (EHCI 1.0, 4.12)
+pub data IsWait : Bool → Wait → Type 0 where
+  starts : IsWait false Idle
+  completes : IsWait true Waits
+  too_late : IsWait true Late
 
 abbrev pub in_split : Line → Wait → KeySlot → InSplit
 in_split l u s = with_slot in_halves in_asked in_answer l u s Empty

@@ -20,6 +20,12 @@ pub mod WorkedPut
 pub mod WorkedControl
 pub mod HostOuts
 pub mod HostIns
+pub mod HostRequests
+pub mod RequestEvents
+pub mod RequestWindows
+pub mod RequestQueues
 pub mod HostEvents
 pub mod HostOpens
 pub mod WorkedHosts
+pub mod WorkedRequests
+pub mod WorkedWindows

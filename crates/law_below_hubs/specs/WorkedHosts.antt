@@ -3,17 +3,29 @@
 --     Opens, Starts, ResultComes     host, hub and device stand as they must
 --     UnsentBreaks                   not where the host sent nothing, and the hub has a packet
 --     ReadStarts                     so they do for an IN; `NoStreamBreaks`: not where the device has nothing to send
+--     fresh, stale                   what a pipeline has of an interrupt OUT's start as it came, and two microframes later
+--     FreshIsUntold, StaleBreaks     a start finds nothing that was told in the first; not in the second, whose result was told
 --     IsBelow, HighBreaks            its queue head, which rests, is that of an endpoint below the hub; not where it tells high speed
-use Rattle.std.specs.Prelude.{ℕ, ◌==◌, true, false, [], ◌∷◌, Some, None, if◌then◌else◌}
+use Rattle.std.specs.Prelude.{ℕ, ◌==◌, true, false, List, [], ◌∷◌, Some, None, if◌then◌else◌}
+use Rattle.usb_base.specs.declared.packets.Ask.{Ask}
+use Rattle.usb_base.specs.declared.packets.DataPart.TheVariants.{All}
+use Rattle.usb_base.specs.declared.packets.EpKind.TheVariants as Kinds
+use Rattle.usb_base.specs.declared.packets.Pid.TheVariants as Packets
+use Rattle.usb_base.specs.declared.packets.Reply.TheVariants.{Hand}
+use Rattle.hub_keys.specs.Keys.{key_of}
+use Rattle.tt_pipeline.specs.declared.entry.Entry.{Entry}
+use Rattle.tt_pipeline.specs.Starting.{started as entered}
+use Rattle.tt_pipeline.specs.Worked.{start_of, after_more}
 use Rattle.bus_wire.specs.Bus.{opening_wired}
 use Rattle.qh_qtd.specs.declared.queue_head.Qh.{Qh}
 use Rattle.qh_qtd.specs.Blank.{blank_head}
 use Rattle.law_structures.specs.lent_structures.Structures.{QueueHead, Structures, StructureSets}
 use Rattle.law_ring.specs.Hand.{Empty}
 use Rattle.law_ring.specs.Told.{endpoint_of}
+use Rattle.law_translated.specs.KeySlots.{slot_at}
 use Rattle.law_below_hubs.specs.HostEvents.{IsOutBehind}
 use Rattle.law_below_hubs.specs.HostIns.{InSide}
-use Rattle.law_below_hubs.specs.HostOuts.{OutSide}
+use Rattle.law_below_hubs.specs.HostOuts.{OutSide, IsUntold}
 use Rattle.law_below_hubs.specs.WorkedBelow as inward
 use Rattle.law_below_hubs.specs.WorkedPut.{key, put_script, one_byte, started, begun}
 
@@ -39,6 +51,23 @@ ReadStarts = InSide (inward.three_bytes ∷ []) inward.key 0 0 inward.started fa
 abbrev pub NoStreamBreaks : Type 0
 NoStreamBreaks = InSide [] inward.key 0 0 inward.started false true true [] → ⊥
 
+-- ---- a pipeline
+
+abbrev pub put_start : Ask
+put_start = start_of Kinds.Interrupt Packets.Out All 2 0
+
+abbrev pub fresh : List Entry
+fresh = entered put_start one_byte 0 []
+
+abbrev pub stale : List Entry
+stale = after_more 2 (Hand Packets.Ack) fresh
+
+abbrev pub FreshIsUntold : Type 0
+FreshIsUntold = IsUntold (slot_at true one_byte (key_of put_start) fresh)
+
+abbrev pub StaleBreaks : Type 0
+StaleBreaks = IsUntold (slot_at true one_byte (key_of put_start) stale) → ⊥
+
 -- ---- a queue head
 
 abbrev pub queue_at : ℕ → Qh
@@ -51,7 +80,7 @@ abbrev pub parts_of : ℕ → StructureSets
 parts_of speed n = part_of speed
 
 abbrev pub IsBelow : Type 0
-IsBelow = IsOutBehind (opening_wired put_script) 0 0 [] (parts_of 0) Empty 64 (endpoint_of (queue_at 0))
+IsBelow = IsOutBehind Kinds.Bulk (opening_wired put_script) 0 0 [] (parts_of 0) Empty 64 (endpoint_of (queue_at 0))
 
 abbrev pub HighBreaks : Type 0
-HighBreaks = IsOutBehind (opening_wired put_script) 0 0 [] (parts_of 2) Empty 64 (endpoint_of (queue_at 2)) → ⊥
+HighBreaks = IsOutBehind Kinds.Bulk (opening_wired put_script) 0 0 [] (parts_of 2) Empty 64 (endpoint_of (queue_at 2)) → ⊥

@@ -1,9 +1,10 @@
-//! A bulk endpoint below a hub at the events of the controller, whichever walk they are of.
+//! An endpoint with a stream, below a hub, at the events of the controller, whichever walk they are of.
 ghost use Rattle.law_below_hubs.specs.HostEvents.{EventKeepsOutBehind, EventKeepsInBehind};
 ghost use Rattle.law_below_hubs.specs.HostOpens.{OutOpens, InOpens, HeadOpensOut, HeadOpensIn, UnaskedLeavesOut, UnaskedLeavesIn};
 
-/// Each event of the controller leaves host, hub and device of an OUT endpoint as they must stand, with the bytes known that it moved; and
-/// of an IN endpoint, unless it is a request that clears the hub's buffers.
+/// Each event of the controller leaves host, hub and device of an OUT endpoint as they must stand, with the bytes known that it moved,
+/// where a start-split of an interrupt endpoint finds nothing that was told; and of a bulk IN endpoint, unless it is a request that clears
+/// the hub's buffers.
 pub fn an_event_keeps_a_pipe_below()
     ensures outward { EventKeepsOutBehind }
     ensures inward { EventKeepsInBehind }

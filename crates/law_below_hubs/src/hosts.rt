@@ -1,6 +1,6 @@
-//! The host of a bulk endpoint below a hub, its device, and what the hub has of their key.
+//! The host of an endpoint with a stream, below a hub, its device, and what the hub has of their key.
 ghost use Rattle.law_below_hubs.specs.HostIns.{OwnInGoesOn, OthersLeaveIn, BeginLeavesIn, InBegins};
-ghost use Rattle.law_below_hubs.specs.HostOuts.{OwnOutGoesOn, OthersLeaveOut, BeginLeavesOut, OutIsTaken};
+ghost use Rattle.law_below_hubs.specs.HostOuts.{OwnOutGoesOn, OthersLeaveOut, BeginLeavesOut, UnworkedIsUntold, OutIsTaken};
 
 /// Each transaction of the host of an OUT endpoint leaves all three as they must stand, with the bytes known that it moved; so does each of
 /// another host, a request to clear the hub's buffers among them, and so does the work of the hubs where a microframe begins.
@@ -8,6 +8,11 @@ pub fn an_out_host_goes_on()
     ensures own { OwnOutGoesOn }
     ensures others { OthersLeaveOut }
     ensures begins { BeginLeavesOut }
+{}
+
+/// What a pipeline has of a key was told to no complete-split where no byte-time of it is worked.
+pub fn an_unworked_entry_is_untold()
+    ensures { UnworkedIsUntold }
 {}
 
 /// So it is of an IN endpoint, with the bytes that came; but where a request clears the hub's buffers.

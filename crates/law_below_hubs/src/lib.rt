@@ -3,7 +3,9 @@
 //! - `buses`: the bus below a hub is one of the same laws as the high-speed bus (`law_ring`, `law_devices`); an endpoint keeps to them on
 //!   both, wherever its device is.
 //! - `events`: such a pipe at the events of the controller.
-//! - `hosts`: the host of a bulk endpoint, its device and what the hub has of their key stand to each other as they must.
+//! - `hosts`: the host of a bulk or interrupt endpoint, its device and what the hub has of their key stand to each other as they must.
+//! - `requests`: the host of a request of a control endpoint, its device and what the hub has of both directions' keys stand to each other
+//!   as they must; between two requests the endpoint rests.
 //! - `splitting`: each split transaction of the host is a step of what the named hub has of its key.
 //! - `work`: where a microframe begins, the work of all hubs is a few events of the machine of a pipe or of a request
 //!   (`law_translated`).
@@ -15,6 +17,7 @@
 pub mod buses;
 pub mod events;
 pub mod hosts;
+pub mod requests;
 pub mod splitting;
 pub mod work;
 pub mod worked;

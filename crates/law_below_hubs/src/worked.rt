@@ -3,10 +3,13 @@ ghost use Rattle.std.specs.Prelude.{◌≡◌, [], ◌∷◌, Some, None};
 ghost use Rattle.law_below_hubs.specs.InWork.{sender_of_line};
 ghost use Rattle.law_below_hubs.specs.Raised.{sender_below};
 ghost use Rattle.law_below_hubs.specs.Seated.{sender_at, sender_on};
-ghost use Rattle.law_below_hubs.specs.WorkedBelow.{StartIsTaken, ResultIsThere, OtherKindBreaks, NamesTheHub, wrong, before, after, enabled_below, disabled_below};
+ghost use Rattle.law_below_hubs.specs.WorkedBelow.{StartIsTaken, ResultIsThere, OtherKindBreaks, NamesTheHub, wrong, before, after};
+ghost use Rattle.law_below_hubs.specs.WorkedBelow.{enabled_below, disabled_below};
 ghost use Rattle.law_below_hubs.specs.WorkedControl as read;
 ghost use Rattle.law_below_hubs.specs.WorkedHosts as hosts;
 ghost use Rattle.law_below_hubs.specs.WorkedPut as put;
+ghost use Rattle.law_below_hubs.specs.WorkedRequests as lossy;
+ghost use Rattle.law_below_hubs.specs.WorkedWindows as windows;
 ghost use Rattle.bus_wire.specs.Samples.{opened, stepped, Begins};
 
 /// A start that is taken, and the result that is there a microframe later; one of another kind breaks the premises, and the device sends.
@@ -65,8 +68,37 @@ pub fn hosts_stand_below()
     ensures no_stream { hosts.NoStreamBreaks }
 {}
 
+/// The start of an interrupt OUT finds nothing that was told in a pipeline in which its first start just came, and so nothing is worked;
+/// it does where that is worked, and its result was told.
+pub fn a_fresh_start_is_untold()
+    ensures fresh { hosts.FreshIsUntold }
+    ensures stale { hosts.StaleBreaks }
+{}
+
 /// The queue head of a full-speed endpoint meets the premises of an event, and one that tells high speed doesn't.
 pub fn a_queue_head_is_below()
     ensures full { hosts.IsBelow }
     ensures high { hosts.HighBreaks }
+{}
+
+/// A read with a packet lost on each bus: before it nothing is asked; once the hub's ACK is lost host, hub and device stand as they must,
+/// and so they do in the microframe after; its queue head works on its SETUP. The host hears the hub's answers in the end, and the device
+/// acted once. With starts in both directions at once they don't stand so.
+pub fn a_lossy_read_comes_true()
+    ensures rests { lossy.HubRestsFirst }
+    ensures lost { lossy.AnswerIsLost }
+    ensures after { lossy.IsAfterMicroframe }
+    ensures works { lossy.WorksFirst }
+    ensures heard { lossy.LossHeard }
+    ensures once { lossy.ActedOnce }
+    ensures breaks { lossy.BothAskedBreaks }
+{}
+
+/// So they do as memory has its qTDs, with a full-speed queue head, and not with one that tells high speed; so does the read as the only
+/// request of its endpoint, and none is under way behind it.
+pub fn memory_shows_a_lossy_read()
+    ensures stands { windows.WindowStands }
+    ensures high { windows.HighBreaks }
+    ensures requests { windows.RequestsStand }
+    ensures none_left { windows.NoneLeftBreaks }
 {}

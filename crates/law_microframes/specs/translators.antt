@@ -5,3 +5,5 @@ pub mod Samples
 pub mod Parts
 pub mod Turns
 pub mod Told
+pub mod Results
+pub mod Fresh

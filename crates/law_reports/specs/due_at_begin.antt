@@ -5,3 +5,4 @@ pub mod Unfinished
 pub mod Framed
 pub mod Splits
 pub mod SplitSamples
+pub mod SplitsFollow

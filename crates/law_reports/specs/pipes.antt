@@ -7,3 +7,4 @@ pub mod Samples
 pub mod high_streams
 pub mod puts
 pub mod below_hubs
+pub mod hub_setups

@@ -20,11 +20,8 @@ pub mod ReportSamples
 pub mod Footing
 pub mod Asking
 pub mod Given
-pub mod WorldLaws
-pub mod Moments
 pub mod Kept
 pub mod AskingLaws
-pub mod Publishing
 pub mod Commanding
 pub mod Reading
 pub mod HighAsking
@@ -32,12 +29,8 @@ pub mod HighLaws
 pub mod HighGiven
 pub mod Ended
 pub mod Narrowing
-pub mod Rows
-pub mod Waits
-pub mod Moves
 pub mod Missed
 pub mod Silent
-pub mod Endings
 pub mod world_requests
 pub mod told_requests
 pub mod request_bytes

@@ -6,6 +6,9 @@
 ghost use Rattle.law_reports.specs.answers.Laws.{TextsHaveCauses, TextsAreHeard, TextsRestWhenDone, TextsTellForReasons, TextsCountPending};
 ghost use Rattle.law_reports.specs.answers.Adding.{CommandsAddWhatTheyAsk, AGetAddsItsBytes, NoBytesAddedIsWrong, NothingAddedIsWrong};
 ghost use Rattle.law_reports.specs.answers.Seated.{BusHasEndpoints, AHubIsSeated, NoEndpointsIsWrong};
+ghost use Rattle.std.specs.Prelude.{[], ◌∷◌};
+ghost use Rattle.law_reports.specs.answers.Together.{FitTogether, FittingOpensHavePlaces};
+ghost use Rattle.law_reports.specs.answers.TogetherSamples.{asked_each_frame, three_each_microframe};
 ghost use Rattle.law_reports.specs.answers.Counting.{EventsCountDown, ClosingsTellPending, OneLineForOneGet, TwoLinesForOneGet, AGetAddsUp, ALineIsMissing};
 
 /// Each command of a script is refused for the first cause that stands, or none stands, and it is accepted.
@@ -76,4 +79,20 @@ pub fn one_line_counts_one_get()
 pub fn counting_is_broken_by_two_lines_and_by_none()
     ensures two { TwoLinesForOneGet }
     ensures none { ALineIsMissing }
+{}
+
+/// Where the periodic endpoints that a script opens fit the budgets of bus time together, wherever they are placed, none of its opens is
+/// refused for want of a placement.
+pub fn fitting_opens_have_places()
+    ensures { FittingOpensHavePlaces }
+{}
+
+/// Two keyboards fit together.
+pub fn two_keyboards_fit()
+    ensures { FitTogether (asked_each_frame ∷ asked_each_frame ∷ []) }
+{}
+
+/// Two cameras that take more than half of each microframe don't.
+pub fn two_cameras_do_not_fit()
+    ensures { FitTogether (three_each_microframe ∷ three_each_microframe ∷ []) → ⊥ }
 {}

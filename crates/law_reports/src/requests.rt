@@ -24,14 +24,10 @@
 //!
 //! The module has no code of its own: each function is a law, and its body is empty.
 
-pub mod asking_laws;
-pub mod commands;
 pub mod driver_requests;
 pub mod harvests;
 pub mod high;
-pub mod leaves;
 pub mod no_misses;
-pub mod publishes;
 pub mod queue_laws;
 pub mod queue_worked;
 pub mod report_laws;

@@ -6,7 +6,8 @@
 --     IsWindow ..                its host is shown by memory and the copy in hand, its device is that on the bus, and both stand as they must
 --     IsFinished, IsBehind ..    a request that is done, one that isn't begun
 --     HasTail v part             the last of an endpoint's requests leads to its tail, or to nothing that is published
---     IsQueue ..                 the queue of an endpoint is so
+--     IsQueueOf window ..        the queue of an endpoint is so, where this is said of the request under way
+--     IsQueue ..                 .. at high speed
 --     IsLaid, AreLaid ..         a request, a queue is laid out, and not begun
 --     HasEnded ..                what memory alone tells of a request that is done
 --     IsActedOnce ..             the device acted on it exactly once, and all its data are told
@@ -118,12 +119,16 @@ pub record IsActedOnce (v : Sent) (l : Line) (hand : Hand) (parts : StructureSet
 abbrev pub HasTail : Queue → Structures → Type 0
 HasTail v part = (i a : ℕ) → suc i ≡ v.count → (v.places i).behind ≡ Some a → IsIdle part a
 
-pub record IsQueue (v : Queue) (l : Lines) (hand : Hand) (parts : StructureSets) (n : ℕ) (o : Option Device) : Type 0 where
+-- with the request under way as this says, before it and behind it whatever it is
+pub record IsQueueOf (window_is : Sent → Line → Type 0) (v : Queue) (l : Lines) (hand : Hand) (parts : StructureSets) (n : ℕ) : Type 0 where
   pub within : l.under < v.count
-  pub window : IsWindow (sent_at v l.under) (l.line l.under) hand parts n o
+  pub window : window_is (sent_at v l.under) (l.line l.under)
   pub finished : (i : ℕ) → i < l.under → IsFinished (sent_at v i) (l.line i) hand parts n
   pub behind : (i : ℕ) → l.under < i → i < v.count → IsBehind (sent_at v i) hand parts n
   pub tail : HasTail v (parts n)
+
+abbrev pub IsQueue : Queue → Lines → Hand → StructureSets → ℕ → Option Device → Type 0
+IsQueue v l hand parts n o = IsQueueOf (λ s x. IsWindow s x hand parts n o) v l hand parts n
 
 pub record AreLaid (v : Queue) (hand : Hand) (parts : StructureSets) (n : ℕ) (q : Qh) : Type 0 where
   pub some : 0 < v.count

@@ -37,3 +37,4 @@ pub mod TurnsRuns
 pub mod TurnsTexts
 pub mod LastCompletes
 pub mod ToldByLast
+pub mod Fresh

@@ -11,7 +11,7 @@ use Rattle.script_fits.specs.Fits.{IsFit}
 use Rattle.drv_table.specs.DriverContent.{DriverContent}
 use Rattle.bus_world.specs.Budgets.{moment}
 use Rattle.law_queues.specs.open_laws.Opens.{AreNamesApart}
-use Rattle.law_hub_plans.specs.Laws.{IsPlacedRight}
+use Rattle.law_translator.specs.hub_plans.Laws.{IsPlacedRight}
 use Rattle.law_microframes.specs.plans.Plans.{HubPlansStand}
 
 abbrev pub PlacesAreRight : DriverContent → Type 0

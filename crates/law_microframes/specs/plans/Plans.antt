@@ -7,7 +7,7 @@ use Rattle.script_types.specs.declared.scripts.Script.{Script}
 use Rattle.drv_table.specs.DriverContent.{DriverContent}
 use Rattle.bus_world.specs.Budgets.{moment}
 use Rattle.law_translator.specs.Plans.{Fits}
-use Rattle.claims_translators.specs.HubPlans.{plan_at}
+use Rattle.claims_world.specs.HubPlans.{plan_at}
 
 abbrev pub HubPlansFitIn : DriverContent → Type 0
 HubPlansFitIn d = (hub port f : ℕ) → hub < 128 → port < 16 → f < frame_list_length → Fits (plan_at d hub port f)

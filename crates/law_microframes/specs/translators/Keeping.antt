@@ -24,7 +24,6 @@ use Rattle.multi_tt.specs.Translators.{Translator, place_of}
 use Rattle.bandwidth.specs.declared.placements.Placement.{Placement}
 use Rattle.drv_periodic_table.specs.declared.content.Removal.{Removal}
 use Rattle.drv_periodic_table.specs.declared.content.Removed.TheVariants as removed
-use Rattle.drv_periodic_table.specs.Periodic.{dir_of}
 use Rattle.drv_table.specs.declared.content.Endpoint.{Endpoint}
 use Rattle.drv_table.specs.DriverContent.{DriverContent}
 use Rattle.hc_iso.specs.declared.held.HeldSitd.{HeldSitd}
@@ -43,15 +42,13 @@ use Rattle.claims_driver.specs.Unlinked.{IsOpenAt}
 use Rattle.claims_world.specs.Visits.{frame_in}
 use Rattle.law_budgets.specs.visit_prices.Spent.{placed_as, IsAmong}
 use Rattle.law_translator.specs.Frames.{Frame}
-use Rattle.law_hub_plans.specs.HubPlans.{AreKeysApart}
-use Rattle.claims_translators.specs.HubPlans.{is_below, placed_below, key_at, is_number, plans_now}
+use Rattle.law_translator.specs.hub_plans.HubPlans.{AreKeysApart}
+pub use Rattle.claims_world.specs.Behind.{key_for}
+use Rattle.claims_world.specs.HubPlans.{is_below, placed_below, key_at, is_number, plans_now}
 use Rattle.law_microframes.specs.plans.Plans.{HubPlansFitIn}
 use Rattle.law_microframes.specs.translators.Watching.{WithKeys, HubsHold, StartFollows}
 
 -- ---- whose an entry is
-
-abbrev pub key_for : EpDesc → Key
-key_for x = record { addr = x.name.addr; ep = x.name.num; dir = dir_of x.name.way; kind = x.kind }
 
 pub record IsOwned (d : DriverContent) (index hub port : ℕ) (k : Key) : Type 0 where
   pub number : ℕ

@@ -16,12 +16,12 @@ use Rattle.drv_table.specs.DriverContent.{DriverContent}
 use Rattle.bus_wire.specs.Bus.{fixed_of}
 use Rattle.bus_world.specs.World.{World, driver_next, commanded}
 use Rattle.bus_world.specs.Budgets.{moment}
-use Rattle.claims_translators.specs.Plans.{Plan}
-use Rattle.claims_translators.specs.Watched.{Watched}
-use Rattle.claims_translators.specs.Translators.{KeepsTranslators}
-use Rattle.claims_translators.specs.Pipelines.{StuffsAtMost, EachPipeline}
+use Rattle.claims_world.specs.Plans.{Plan}
+use Rattle.claims_world.specs.Watched.{Watched}
+use Rattle.claims_world.specs.Translators.{KeepsTranslators}
+use Rattle.claims_world.specs.Pipelines.{StuffsAtMost, EachPipeline}
 use Rattle.law_microframes.specs.translators.Keeping.{IsOwned, StartsFollow, SitdsFollow, PartsAreLacked, IsKnown}
-use Rattle.claims_translators.specs.Gaps.{gaps}
+use Rattle.claims_world.specs.Gaps.{gaps}
 
 abbrev pub AlongRuns : ℕ → (Plan → ℕ → List Watched → Type 0) → Type 0
 AlongRuns most P = (s : Script) → StuffsAtMost most (fixed_of s) → ((k : ℕ) → IsKnown (moment s k).world) → (k : ℕ)

@@ -1,10 +1,9 @@
 -- What a translator has for the host at the last complete-split (USB 2.0, 11.18.4; EHCI 1.0, 4.12.2.1 and 4.12.3.1).
---     IsLastIn mask u             u is the last microframe of this mask
 --     LastCompletesAreLate        two microframes lie between the last in which something is laid for an interrupt endpoint, or for an
 --                                 isochronous IN, and its last complete-split
 --     IsToldByLast d index hub port e   at that begin the result of an interrupt is there, and the last bytes of an isochronous IN
 --     TextsTellByLast             so it is of each entry at each moment of a script that a text spells
-use Rattle.std.specs.Prelude.{◌≡◌, ℕ, ◌+◌, ◌/◌, ◌%◌, ◌<◌, ◌≤◌, true, false, List, slice_get, Some}
+use Rattle.std.specs.Prelude.{◌≡◌, ℕ, ◌+◌, ◌/◌, ◌%◌, ◌≤◌, true, List, slice_get, Some}
 use Rattle.std.specs.List.{AllByRecursion}
 use Rattle.usb_base.specs.declared.packets.Dir.{Dir}
 use Rattle.usb_base.specs.declared.packets.Dir.TheVariants as dirs
@@ -14,7 +13,7 @@ use Rattle.usb_base.specs.declared.packets.Pid.{Pid}
 use Rattle.script_types.specs.declared.scripts.Script.{Script}
 use Rattle.script_text.specs.Faults.{Spells}
 use Rattle.bandwidth.specs.declared.placements.Placed.{Placed}
-use Rattle.bandwidth.specs.Placements.{has, first_in, is_classic}
+use Rattle.bandwidth.specs.Placements.{first_in, is_classic}
 use Rattle.drv_periodic_table.specs.Periodic.{dir_of}
 use Rattle.drv_table.specs.DriverContent.{DriverContent}
 use Rattle.tt_pipeline.specs.declared.entry.Entry.{Entry}
@@ -23,16 +22,12 @@ use Rattle.tt_pipeline.specs.Answers.{answer_row}
 use Rattle.multi_tt.specs.Translators.{Translator}
 use Rattle.hub_class.specs.HubContent.{HubContent}
 use Rattle.bus_world.specs.Budgets.{moment}
-use Rattle.claims_translators.specs.Answered.{IsHeardIn}
-use Rattle.claims_translators.specs.HubPlans.{time_in}
-use Rattle.claims_translators.specs.Pipelines.{port_at}
-use Rattle.law_hub_plans.specs.Laws.{IsPlacedRight}
+use Rattle.claims_world.specs.Answered.{IsHeardIn}
+use Rattle.claims_world.specs.HubPlans.{time_in}
+use Rattle.claims_world.specs.Pipelines.{port_at}
+pub use Rattle.claims_world.specs.Results.{IsLastIn}
+use Rattle.law_translator.specs.hub_plans.Laws.{IsPlacedRight}
 use Rattle.law_microframes.specs.translators.Keeping.{IsOwned}
-
-pub record IsLastIn (mask u : ℕ) : Type 0 where
-  pub low : u < 8
-  pub here : has mask u ≡ true
-  pub none : (v : ℕ) → u < v → v < 8 → has mask v ≡ false
 
 -- those of which the host asks for what the device sent
 abbrev pub HasAnswer : EpKind → Dir → Type 0

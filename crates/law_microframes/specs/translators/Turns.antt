@@ -1,6 +1,5 @@
 -- The isochronous OUTs below hubs at a moment of a run: what a siTD has sent of the packet of its frame, its entry has had (USB 2.0,
 -- 11.18.4; EHCI 1.0, 3.4.4, 4.6 and 4.12.3).
---     pipeline_for hs hub port   the entries of the translator by which the hub with this address serves this port
 --     EntriesAre P hs v       where the siTD v of an OUT is still active after a part, P holds of each entry of its key
 --     IsInHand c n            a copy of the siTD at n is in hand
 --     IsUnasked c n           .. and its transaction is still to be made
@@ -19,8 +18,7 @@
 --                             nothing. NewOutsGoOn: so it begins
 --     OtherAsksLeave P        P stays of the entries of a key where the host starts none of it; LaterPartsLeave: so does an
 --                             OUT's part that isn't its first nor its last, of its own key
-use Rattle.std.specs.Prelude.{◌≡◌, ◌⊎◌, ℕ, ◌*◌, ◌≤◌, ◌==◌, position, true, false, List, [], length, slice_get, Option, Some, None}
-use Rattle.std.specs.Option.{option_map_or}
+use Rattle.std.specs.Prelude.{◌≡◌, ◌⊎◌, ℕ, ◌*◌, ◌≤◌, ◌==◌, true, false, List, [], length, slice_get, Some, None}
 use Rattle.usb_base.specs.declared.commands.Cmd.{Cmd}
 use Rattle.usb_base.specs.declared.packets.Ask.{Ask}
 use Rattle.usb_base.specs.declared.packets.DataPart.{DataPart}
@@ -33,7 +31,6 @@ use Rattle.hub_keys.specs.declared.key.Key.{Key}
 use Rattle.multi_tt.specs.Single.{is_buffered}
 use Rattle.itd_sitd.specs.declared.sitd.Sitd.{Sitd}
 use Rattle.tt_pipeline.specs.declared.entry.Entry.{Entry}
-use Rattle.multi_tt.specs.Translators.{place_of}
 use Rattle.hub_class.specs.HubContent.{HubContent}
 use Rattle.usb_base.specs.declared.packets.Reply.{Reply}
 use Rattle.hc_iso.specs.declared.held.HeldSitd.{HeldSitd}
@@ -57,23 +54,9 @@ use Rattle.law_queues.specs.open_laws.Opens.{AreNamesApart}
 use Rattle.law_world.specs.memory.Mixed.{IsMixedWorld}
 use Rattle.law_microframes.specs.visits.OneDescriptor.{IsActiveDescriptor, IsMixedOnce}
 use Rattle.law_microframes.specs.time.SitdFields.{SplitTransfer, SitdsStand}
-use Rattle.claims_translators.specs.Gaps.{pipeline_in}
+pub use Rattle.claims_world.specs.Behind.{entries_at, entries_of_hub, entries_by, pipeline_for}
 use Rattle.law_microframes.specs.translators.Keeping.{key_for, PartsAreLacked}
 use Rattle.law_microframes.specs.translators.Parts.{EachOf, Lacks, IsEven, key_asked}
-
--- ---- the entries that a siTD means
-
-abbrev pub entries_at : Option ℕ → HubContent → List Entry
-entries_at o h = option_map_or (pipeline_in h.translators.all) o []
-
-abbrev pub entries_of_hub : Option HubContent → ℕ → List Entry
-entries_of_hub o port = option_map_or (λ h. entries_at (place_of h.translators.multi port) h) o []
-
-abbrev pub entries_by : List HubContent → Option ℕ → ℕ → List Entry
-entries_by hs o port = option_map_or (λ i. entries_of_hub (slice_get hs i) port) o []
-
-abbrev pub pipeline_for : List HubContent → ℕ → ℕ → List Entry
-pipeline_for hs hub port = entries_by hs (position (λ x. x.address == hub) hs) port
 
 -- ---- one siTD
 

@@ -14,12 +14,12 @@ use Rattle.hub_keys.specs.declared.key.Key.{Key}
 use Rattle.multi_tt.specs.Translators.{Translator, place_of}
 use Rattle.multi_tt.specs.Single.{is_buffered}
 use Rattle.hub_class.specs.HubContent.{HubContent}
-use Rattle.claims_translators.specs.Plans.{Plan}
+use Rattle.claims_world.specs.Plans.{Plan}
 use Rattle.law_translator.specs.Frames.{Frame}
-use Rattle.claims_translators.specs.Watched.{Watched}
+use Rattle.claims_world.specs.Watched.{Watched}
 use Rattle.law_translator.specs.Premises.{Follows}
-use Rattle.claims_translators.specs.Pipelines.{port_at}
-use Rattle.claims_translators.specs.Gaps.{watched_of}
+use Rattle.claims_world.specs.Pipelines.{port_at}
+use Rattle.claims_world.specs.Gaps.{watched_of}
 
 -- ---- one pipeline
 

@@ -3,7 +3,7 @@ ghost use Rattle.std.specs.Prelude.{◌≡◌, [], ◌∷◌};
 ghost use Rattle.usb_base.specs.declared.packets.Dir.TheVariants.{In};
 ghost use Rattle.usb_base.specs.declared.packets.EpKind.TheVariants.{Iso};
 ghost use Rattle.law_translator.specs.Plans.{sum_at};
-ghost use Rattle.claims_translators.specs.HubPlans.{plan_at};
+ghost use Rattle.claims_world.specs.HubPlans.{plan_at};
 ghost use Rattle.law_microframes.specs.plans.Samples.{filmed, filmed_twice};
 
 /// It has 188 byte-times in microframe 1 of each frame, and none before or after; another translator has no plan.

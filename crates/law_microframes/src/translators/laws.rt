@@ -1,6 +1,6 @@
 //! What each translator has done for what is laid, at each moment of a run.
-ghost use Rattle.claims_translators.specs.KeepsUp.{AllKeepUp, AllKeepUpStuffed};
-ghost use Rattle.claims_translators.specs.Answered.{AllAnswered};
+ghost use Rattle.claims_world.specs.KeepsUp.{AllKeepUp, AllKeepUpStuffed};
+ghost use Rattle.claims_world.specs.Answered.{AllAnswered};
 ghost use Rattle.law_microframes.specs.translators.Laws.{AlongRuns, EntriesStayOwned};
 
 /// Where no endpoint has stuffed bits, and each start-split is one that its plan calls for: each entry has had what is laid for it up to

@@ -1,5 +1,6 @@
 //! The same of each script that a text spells: each start-split follows its plan.
 ghost use Rattle.law_microframes.specs.translators.Laws.{PartsComeInTurn, TextsKeepTranslators, TextsHaveFewStuffedBits, InterruptsFollow, SitdsFollowToo};
+ghost use Rattle.law_microframes.specs.translators.Fresh.{StartsFindNoneWorked};
 ghost use Rattle.law_microframes.specs.translators.Told.{LastCompletesAreLate, TextsTellByLast};
 
 /// Each start-split of a queue head is one that the plan of its translator calls for, and its endpoint isn't given back in the frame.
@@ -33,4 +34,9 @@ pub fn texts_keep_up()
 pub fn answers_are_there_for_the_last_complete()
     ensures late { LastCompletesAreLate }
     ensures told { TextsTellByLast }
+{}
+
+/// One start-split of an interrupt endpoint comes in a frame: it finds no entry of its key of which something is worked.
+pub fn starts_find_none_worked()
+    ensures { StartsFindNoneWorked }
 {}

@@ -5,10 +5,10 @@ ghost use Rattle.drv_chains.specs.declared.boundary.Boundary.TheVariants.{Since,
 ghost use Rattle.tt_pipeline.specs.Worked.{iso_out};
 ghost use Rattle.law_translator.specs.Premises.{Follows};
 ghost use Rattle.law_microframes.specs.plans.Samples.{filmed};
-ghost use Rattle.claims_translators.specs.Gaps.{gaps_worked};
-ghost use Rattle.claims_translators.specs.Pipelines.{StuffsAtMost};
+ghost use Rattle.claims_world.specs.Gaps.{gaps_worked};
+ghost use Rattle.claims_world.specs.Pipelines.{StuffsAtMost};
 ghost use Rattle.law_microframes.specs.translators.Keeping.{IsOwned, EntryLacks};
-ghost use Rattle.claims_translators.specs.HubPlans.{plans_now};
+ghost use Rattle.claims_world.specs.HubPlans.{plans_now};
 ghost use Rattle.law_microframes.specs.translators.Parts.{EachOf, Lacks, IsEven};
 ghost use Rattle.hc_iso.specs.declared.held.SplitOutcome.TheVariants.{Moved};
 ghost use Rattle.bus_world.specs.World.{World};

@@ -8,4 +8,6 @@ pub mod Counting
 pub mod Closings
 pub mod Moments
 pub mod AddingUp
+pub mod Placing
+pub mod PlacingSamples
 pub mod Texts

@@ -3,6 +3,7 @@ pub mod DeclaredOpens
 pub mod Names
 pub mod Across
 pub mod Carried
+pub mod StartingHeads
 pub mod NewHeads
 pub mod NameWords
 pub mod NamesKept

@@ -28,12 +28,10 @@ pub mod Asking
 pub mod Right
 pub mod Accepted
 pub mod ReportSampled
-pub mod Has
 pub mod Footing
 pub mod Relinking
 pub mod Names
 pub mod Assembled
-pub mod Controller
 pub mod Still
 pub mod NewWorld
 pub mod Scripts
@@ -41,7 +39,6 @@ pub mod Given
 pub mod Missed
 pub mod Silent
 pub mod SilentCommands
-pub mod Moments
 pub mod Kept
 pub mod Refused
 pub mod Awaited
@@ -50,7 +47,6 @@ pub mod Newest
 pub mod Lending
 pub mod Storing
 pub mod Noting
-pub mod Publishing
 pub mod Accepting
 pub mod Requested
 pub mod Commanding
@@ -69,7 +65,6 @@ pub mod Unlinking
 pub mod OpenLending
 pub mod NewHeads
 pub mod OpenLinking
-pub mod Linking
 pub mod Waits
 pub mod Moves
 pub mod Releasing
@@ -78,8 +73,6 @@ pub mod Ending
 pub mod EndedBeside
 pub mod Endings
 pub mod Driving
-pub mod Commanded
-pub mod Together
 pub mod HighFooting
 pub mod HighWindows
 pub mod HighDevices

@@ -4,9 +4,14 @@
 --     started_in w k         .. and k events of the controller later, from such a world w on
 --     made_in w k            the transactions that were written back in the microframe until then
 --     its_queue              the byte address of the keyboard's queue head
+--     its_head w             the keyboard's queue head in memory
+--     eight_bytes            what the keyboard tells
 --     too_late               the world in which the keyboard's queue head waits for its complete-splits, but that microframe 3 of frame
 --                            128 is about to begin: microframe 2 has had none
-use Rattle.std.specs.Prelude.{ℕ, List, []}
+use Rattle.std.specs.Prelude.{ℕ, List, [], ◌∷◌}
+use Rattle.word_mem.specs.Views.{words_at}
+use Rattle.qh_qtd.specs.declared.queue_head.Qh.{Qh}
+use Rattle.qh_qtd.specs.QueueHead.{qh_at}
 use Rattle.bus_wire.specs.Bus.{fixed_of}
 use Rattle.bus_world.specs.World.{World}
 use Rattle.bus_world.specs.Orders.{ticks}
@@ -29,3 +34,9 @@ made_in w k = carried_from made_next (fixed_of keyboard_and_disk) (waits_in w) [
 
 abbrev pub its_queue : ℕ
 its_queue = 4160
+
+abbrev pub its_head : World → Qh
+its_head w = qh_at (words_at w.memory its_queue 12)
+
+abbrev pub eight_bytes : List ℕ
+eight_bytes = 0 ∷ 0 ∷ 4 ∷ 0 ∷ 0 ∷ 0 ∷ 0 ∷ 0 ∷ []

@@ -7,7 +7,7 @@
 --     AreEndsNamed d ends      each endpoint that is met has its own name, speed, hub and port
 --     IsOpening d y            the endpoint is being opened
 --     AreFresh d way has P     P holds of each name of this way that has a stream, but of those of endpoints that were opened
---     IsNewHead s n x          the queue head at n is that of endpoint x, and begins with DATA0
+--     IsNewHead s n x          the queue head at n is that of endpoint x, and begins with DATA0 and a start-split; nothing of it is active
 --     HaveNewHeads d s         so is that of one that is being opened, once it was lent
 --     HasBegun x wire way addr ep bytes
 --                              these bytes begin the packets of the device that sends, or what the device has that takes
@@ -23,6 +23,8 @@ use Rattle.usb_base.specs.declared.packets.Way.{Way}
 use Rattle.usb_base.specs.declared.packets.Way.TheVariants as ways
 use Rattle.bus_wire.specs.Bus.{Wired, Fixed}
 use Rattle.claims_base.specs.Prefix.{IsPrefix}
+use Rattle.qh_qtd.specs.declared.qtd.Qtd.{Qtd}
+use Rattle.qh_qtd.specs.declared.queue_head.Qh.{Qh}
 use Rattle.claims_report.specs.Streams.{told_in}
 use Rattle.drv_table.specs.declared.content.Command.TheVariants as unfinished
 use Rattle.drv_table.specs.declared.content.Endpoint.{Endpoint}
@@ -31,10 +33,12 @@ use Rattle.drv_table.specs.Kinds.{is_iso}
 use Rattle.drv_table.specs.Words.{queue_head}
 use Rattle.law_driver.specs.endpoint_lives.Lives.{may_meet}
 use Rattle.law_driver.specs.queued_drivers.Queued.{queued_endpoint, queued}
+use Rattle.law_structures.specs.lent_structures.Structures.{QueueHead, Element}
 use Rattle.law_ring.specs.Told.{Endpoint as Told, endpoint_of, HasToggle, HasEndpoint}
 use Rattle.law_ring.specs.OutBus.{Taker}
 use Rattle.law_controller.specs.controlled_streams.Unopened.{IsUntouched}
 use Rattle.law_driver_ring.specs.fed_queues.Places.{IsThere, IsMet}
+use Rattle.law_below_hubs.specs.HostEvents.{hand_host}
 use Rattle.law_queues.specs.told_endpoints.Telling.{lines_in}
 use Rattle.law_devices.specs.Senders.{sender_of}
 use Rattle.law_devices.specs.scripted_takers.Takers.{taker_of}
@@ -81,6 +85,8 @@ pub record IsNewHead (s : Standing) (n : ℕ) (x : Told) : Type 0 where
   pub named : HasEndpoint s.parts n x
   -- data toggle control (3.6.2): a control endpoint's packets have the toggles of their qTDs
   pub first : x.dtc ≡ false → HasToggle (in_hand s) s.parts n false
+  pub starts : (q : Qh) → s.parts n n ≡ Some (QueueHead q) → (hand_host (in_hand s) n q).waiting ≡ false
+  pub idle : (a : ℕ) (u : Qtd) → s.parts n a ≡ Some (Element u) → u.token.active ≡ true → ⊥
 
 abbrev pub HaveNewHeads : DriverContent → Standing → Type 0
 HaveNewHeads d s = (e : ℕ) (y : Endpoint) → slice_get d.endpoints e ≡ Some y → IsOpening d y → (queued d).made ≡ 1

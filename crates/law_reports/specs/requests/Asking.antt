@@ -18,7 +18,6 @@
 --     AsksIn ..                  so it is of a driver over memory and a bus
 --     HasAsks ..                 .. for some queues
 --     IsAskingWorld ..           the world is so
---     HasAskingWorld ..          .. a world of bulk and control endpoints, for some queue heads, structures and queues
 use Rattle.std.specs.Prelude.{◌≡◌, ℕ, zero, suc, ◌-◌, ◌*◌, ◌≤◌, ◌==◌, ◌&&◌, not, Bool, true, false, List, [], ◌∷◌, ◌++◌, length, slice_get, Option, Some, None, if◌then◌else◌}
 use Rattle.usb_base.specs.declared.endpoints.EndCause.{EndCause}
 use Rattle.usb_base.specs.declared.endpoints.EpDesc.{EpDesc}
@@ -36,7 +35,7 @@ use Rattle.drv_table.specs.declared.content.QtdNote.{QtdNote}
 use Rattle.drv_table.specs.declared.content.Transfer.{Transfer}
 use Rattle.drv_table.specs.DriverContent.{DriverContent}
 use Rattle.drv_table.specs.Harvests.{note_at}
-use Rattle.drv_table.specs.Words.{is_control, head_block, opening_head, request_stages}
+use Rattle.drv_table.specs.Words.{is_control, request_stages}
 use Rattle.law_driver.specs.endpoint_lives.Lives.{told_end, may_meet}
 use Rattle.law_driver_ring.specs.fed_queues.Places.{IsMet}
 use Rattle.law_queues.specs.fed_lends.ToLend.{IsToBeLent}
@@ -50,7 +49,6 @@ use Rattle.claims_report.specs.ControlSides.{Device}
 use Rattle.law_devices.specs.request_calls.Bus.{device_of}
 use Rattle.law_reports.specs.requests.request_bytes.Held.{RequestIsHeld}
 use Rattle.law_ring.specs.Hand.{Hand}
-use Rattle.law_ring.specs.Told.{Endpoint as Characteristics, endpoint_of}
 use Rattle.law_devices.specs.ring_requests.Runs.{first_of}
 use Rattle.claims_report.specs.Controls.{control_of}
 use Rattle.bus_world.specs.World.{World}
@@ -62,7 +60,6 @@ use Rattle.law_reports.specs.requests.Records.{Numbers, AreRecords}
 use Rattle.law_reports.specs.requests.Counts.{counted_all}
 use Rattle.law_reports.specs.requests.Telling.{IsTelling, IsUncancelled}
 use Rattle.law_queues.specs.standing_fronts.Tails.{tail_of}
-use Rattle.law_world.specs.streams.Whole.{IsWhole, StaysOpen, AreOf}
 use Rattle.law_reports.specs.requests.Missed.{MissNone}
 
 -- ---- what the script has for its control endpoints
@@ -237,20 +234,3 @@ pub record HasAsks (g : Sides) (member : ℕ → Bool) (parts : StructureSets) (
 
 abbrev pub IsAskingWorld : Sides → Fixed → (ℕ → Bool) → Standing → Asking → Windows → (ℕ → Request) → World → Type 0
 IsAskingWorld g fixed member s a v asks w = AsksIn g member s.parts s.hand a v asks w.driver w.memory (wired fixed w)
-
-pub record HasAskingWorld (g : Sides) (fixed : Fixed) (takes : ℕ → ℕ → Bool) (stream : ℕ → ℕ → Bool) (packets : ℕ → ℕ → List (List ℕ)) (v : Windows) (asks : ℕ → Request) (w : World) : Type 0 where
-  pub member : ℕ → Bool
-  pub streams : ℕ → Bool
-  pub endpoint : ℕ → Characteristics
-  pub standing : Standing
-  pub ins : ℕ → ℕ → Bool
-  pub outs : ℕ → ℕ → Bool
-  pub asking : Asking
-  pub whole : IsWhole fixed outs member (record { stream = ins; packets = packets; streams = streams; endpoint = endpoint }) standing w
-  pub world : IsAskingWorld g fixed member standing asking v asks w
-  -- the head of the ring is no device's
-  pub head : endpoint (32 * head_block) ≡ endpoint_of opening_head
-  pub ins_stay : StaysOpen w.driver true stream ins
-  pub outs_stay : StaysOpen w.driver false takes outs
-  pub ins_were : AreOf stream ins
-  pub outs_were : AreOf takes outs

@@ -2,12 +2,9 @@
 --     is_of_device s x         x is a control endpoint, and no hub's own: a hub answers by its own state, and not by lines of the script
 --     sides_of s               for these endpoints the sides of the devices before its first line, the replies that its lines give, and the data of the requests
 --     GivesCommand g cmd       the control endpoint that the command opens, if any, is one of them; and the request that it makes, if any, is whole
---     GivesLine g line         so does the command of a line
 use Rattle.std.specs.Prelude.{◌≡◌, Bool, true, false, ◌&&◌, not, refl}
 use Rattle.usb_base.specs.declared.commands.Cmd.{Cmd}
 use Rattle.usb_base.specs.declared.commands.Cmd.TheVariants as commands
-use Rattle.script_types.specs.declared.scripts.Line.{Line}
-use Rattle.script_types.specs.declared.scripts.Line.TheVariants as lines
 use Rattle.script_types.specs.declared.scripts.Script.{Script}
 use Rattle.usb_base.specs.declared.endpoints.EpDesc.{EpDesc}
 use Rattle.drv_table.specs.Words.{is_control}
@@ -35,7 +32,3 @@ GivesOpened g _ = Unit {0}
 pub record GivesCommand (g : Sides) (cmd : Cmd) : Type 0 where
   pub opened : GivesOpened g cmd
   pub asks : AsksCommand cmd
-
-abbrev pub GivesLine : Sides → Line → Type 0
-GivesLine g (lines.Command cmd) = GivesCommand g cmd
-GivesLine g _ = Unit {0}

@@ -41,6 +41,6 @@ pub fn a_cancelled_microphone_is_excused()
 
 /// The descriptor is stored for its frame as the microframe begins; it isn't while the command that took it on has it to link.
 pub fn a_descriptor_is_stored_for_its_frame()
-    ensures stored { IsStoredFor (due_at 1).driver 0 4160 (frame_in (due_at 1).control.frame.index) }
-    ensures not_yet { IsStoredFor (heard_at 2).driver 0 4160 (frame_in (due_at 1).control.frame.index) → ⊥ }
+    ensures stored { IsStoredFor false (due_at 1).driver 0 4160 (frame_in (due_at 1).control.frame.index) }
+    ensures not_yet { IsStoredFor false (heard_at 2).driver 0 4160 (frame_in (due_at 1).control.frame.index) → ⊥ }
 {}

@@ -1,5 +1,5 @@
-//! Pipes of bulk endpoints below hubs, at the events of the controller and at the steps by which the driver goes on (EHCI 1.0, 4.12; USB
-//! 2.0, 8.6 and 11.17).
+//! Pipes of bulk and interrupt endpoints below hubs, at the events of the controller and at the steps by which the driver goes on (EHCI
+//! 1.0, 4.12; USB 2.0, 8.6, 11.17 and 11.18).
 ghost use Rattle.law_reports.specs.pipes.below_hubs.Controlled.{
   ControllerKeepsWays,
   ControllerKeepsOutBelow,
@@ -13,6 +13,7 @@ ghost use Rattle.law_reports.specs.pipes.below_hubs.BehindLaws.{
   DriverKeepsBehind,
   CommandKeepsBehind,
   TextsOpenSpots,
+  TextsFindNoneTold,
   NewWorldIsBehind,
   ScriptsAreBehind,
   TextsAreBehind,
@@ -48,7 +49,13 @@ pub fn an_event_leaves_an_unmet_pipe_below()
     ensures inward { ControllerLeavesIn }
 {}
 
-/// Each event and each command leaves the OUT endpoints as they must stand, with what was put to them, also those that have left.
+/// No start-split of an interrupt endpoint finds in its translator's pipeline what a complete-split was answered with.
+pub fn no_start_finds_what_was_told()
+    ensures { TextsFindNoneTold }
+{}
+
+/// Each event and each command leaves the OUT endpoints as they must stand, with what was put to them, also those that have left; at an
+/// event of the controller no start-split may find what was told.
 pub fn an_event_keeps_outs_below()
     ensures controller { ControllerKeepsBehind }
     ensures driver { DriverKeepsBehind }

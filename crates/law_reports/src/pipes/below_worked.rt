@@ -1,18 +1,19 @@
-//! Worked rows of bulk endpoints below hubs, which the check computes.
+//! Worked rows of bulk and interrupt endpoints below hubs, which the check computes.
 ghost use Rattle.std.specs.Prelude.{◌≡◌, [], ◌∷◌, true, false, Some, None};
 ghost use Rattle.claims_world.specs.Streams.{IsToldTaken, IsTakenSent};
-ghost use Rattle.usb_base.specs.declared.packets.EpKind.TheVariants.{Bulk};
+ghost use Rattle.usb_base.specs.declared.packets.EpKind.TheVariants.{Bulk, Interrupt, Control};
 ghost use Rattle.usb_base.specs.declared.packets.Pid.TheVariants as Pids;
 ghost use Rattle.usb_base.specs.declared.packets.Reply.TheVariants as Replies;
+ghost use Rattle.usb_base.specs.declared.packets.Speed.TheVariants as speeds;
 ghost use Rattle.hub_class.specs.Requesting.{requested};
 ghost use Rattle.hub_class.specs.Translating.{transact_reply};
 ghost use Rattle.hub_class.specs.Worked as hubs;
 ghost use Rattle.claims_world.specs.BelowStreams.{is_claimed_below, is_claimed_in, heard_clear};
-ghost use Rattle.law_reports.specs.pipes.below_hubs.Behind.{sent_in};
+ghost use Rattle.law_reports.specs.pipes.below_hubs.Behind.{kind_at, its_key, sent_in};
 ghost use Rattle.law_reports.specs.pipes.below_hubs.BehindLaws.{spots_of};
 ghost use Rattle.law_reports.specs.pipes.below_hubs.Inward.{is_inlet};
 ghost use Rattle.law_reports.specs.pipes.below_hubs.InwardLaws.{inlet_of};
-ghost use Rattle.law_reports.specs.pipes.below_hubs.Samples.{page, printer, sheet, scanner, asks_hub};
+ghost use Rattle.law_reports.specs.pipes.below_hubs.Samples.{page, printer, keys, board, sheet, scanner, asks_hub};
 ghost use Rattle.law_reports.specs.pipes.below_hubs.DeafLaws.{IsUnopenedHub};
 
 /// An endpoint is in the claim where a hub of the script has its port: the last of four; not a fifth, none, or one of another hub.
@@ -30,6 +31,23 @@ pub fn a_printer_has_its_spot()
     ensures hub { (spots_of printer).hub 3 2 ≡ 0 }
     ensures place { (spots_of printer).place 3 2 ≡ 0 }
     ensures other { (spots_of printer).has 3 1 ≡ false }
+{}
+
+/// So are interrupt OUT endpoints: behind a port of the hub, at full or low speed, and not at high speed; control endpoints aren't.
+pub fn an_interrupt_out_has_its_hub()
+    ensures last { is_claimed_below board (keys (Some 9) 4) ≡ true }
+    ensures low { is_claimed_below board (record (keys (Some 9) 4) { speed = speeds.Low }) ≡ true }
+    ensures high { is_claimed_below board (record (keys (Some 9) 4) { speed = speeds.High }) ≡ false }
+    ensures fifth { is_claimed_below board (keys (Some 9) 5) ≡ false }
+    ensures control { is_claimed_below board (record (keys (Some 9) 4) { kind = Control }) ≡ false }
+{}
+
+/// The line that opens it tells the kind by which the hub knows it.
+pub fn a_spot_has_its_kind()
+    ensures keys { kind_at (spots_of board) 3 2 ≡ Interrupt }
+    ensures page { kind_at (spots_of printer) 3 2 ≡ Bulk }
+    ensures unopened { (spots_of board).has 3 1 ≡ false }
+    ensures key { (its_key (spots_of board) 3 2).kind ≡ Interrupt }
 {}
 
 /// Behind a reported end a device may take the packet that its hub still had, but no byte that wasn't put; and no byte is told that it

@@ -4,18 +4,7 @@ ghost use Rattle.script_world.specs.Draft.{hub_desc};
 ghost use Rattle.law_driver.specs.AsynchronousScripts.{AsynchronousOnly};
 ghost use Rattle.law_devices.specs.declared_controls.Samples.{zero, beside_bulk};
 ghost use Rattle.law_reports.specs.requests.Given.{is_of_device};
-ghost use Rattle.law_reports.specs.requests.Moments.{TextsAsk, ScriptsStayAsking};
 ghost use Rattle.law_reports.specs.requests.Kept.{TextsKeepRequests};
-
-/// Each control endpoint of a device that a text opens has the device's side and its replies, and each request that it makes is whole.
-pub fn texts_ask()
-    ensures { TextsAsk }
-{}
-
-/// At each moment of a script of bulk and control endpoints the requests of its control endpoints stand as they must.
-pub fn scripts_stay_asking()
-    ensures { ScriptsStayAsking }
-{}
 
 /// Of each text, whatever it opens: in the window of each request of a control endpoint at high speed a device that is no hub acts at most
 /// once, and on nothing but its setup bytes. A request that is reported done was acted on exactly once, and the bytes that are told are its

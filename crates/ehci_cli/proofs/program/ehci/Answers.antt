@@ -2,11 +2,12 @@ use Rattle.ehci_cli.proofs.Admitted.{source_admits, source_keeps_to_lent, source
 use Rattle.ehci_cli.proofs.Causes.{source_has_causes, source_is_heard, source_rests_when_done, source_tells_for_reasons, source_counts_pending}
 use Rattle.ehci_cli.proofs.Memory.{source_keeps_memory, source_reaches_lent, source_keeps_to_owners, source_gives_back_last, source_leaves_what_is_back}
 use Rattle.ehci_cli.proofs.Memory.{source_keeps_links}
+use Rattle.ehci_cli.proofs.Places.{load_has_places}
 use Rattle.ehci_cli.proofs.Requests.{source_keeps_requests}
 use Rattle.ehci_cli.proofs.Streams.{source_ends_once, source_misses_below, source_fails_below, source_keeps_streams}
 use Rattle.ehci_cli.proofs.Visits.{source_keeps_visits, source_pays_within_load, source_is_in_time, source_ends_microframes, source_keeps_due, source_does_slots, source_keeps_to_work, source_repeats_after_losses}
 use Rattle.ehci_cli.proofs.Visits.{source_does_what_is_due_at_begin, source_does_slots_at_begin, source_keeps_translators}
-use Rattle.ehci_cli.proofs.Visits.{source_makes_splits, source_serves_sitds, source_serves_sitds_at_begin}
+use Rattle.ehci_cli.proofs.Visits.{source_makes_splits, source_takes_results, source_serves_sitds, source_serves_sitds_at_begin}
 use Rattle.app_forms.proofs.Finished.{finishes}
 use Rattle.ehci_cli.proofs.Whole.{whole_load, whole_program}
 use Rattle.ehci_cli.proofs.program.ehci.Goals as goal
@@ -77,6 +78,9 @@ returns-clause-slots_at_begin g c = source_does_slots_at_begin _ _
 pub returns-clause-splits_at_begin : goal.returns-clause-splits_at_begin
 returns-clause-splits_at_begin g c = source_makes_splits _ _
 
+pub returns-clause-results : goal.returns-clause-results
+returns-clause-results g c = source_takes_results _ _
+
 pub returns-clause-sitds : goal.returns-clause-sitds
 returns-clause-sitds g c = source_serves_sitds _ _
 
@@ -103,6 +107,9 @@ returns-clause-requests g c = source_keeps_requests _ _
 
 pub returns-clause-answers : goal.returns-clause-answers
 returns-clause-answers g c = source_has_causes _ _
+
+pub returns-clause-places : goal.returns-clause-places
+returns-clause-places g c = load_has_places _
 
 pub returns-clause-hears : goal.returns-clause-hears
 returns-clause-hears g c = source_is_heard _ _

@@ -110,19 +110,20 @@ module _ (e : Endpoint) (r : Request) (x : Places) (part : Structures) (n : ℕ)
   taken_shows going (ends w) = absurd (false≢true (sym going ∙ ap is_done w.done))
   taken_shows going (halts w) = absurd (false≢true (sym goes_on ∙ w.halted))
 
-  -- nothing is behind the request but the tail
-  pub none_behind : Ends x part (host_in q) q h → ((b : ℕ) → x.behind ≡ Some b → IsIdle part b) → ⊥
-  none_behind w tail = by x.behind refl
-    where
-      by : (o : Option ℕ) → x.behind ≡ o → ⊥
-      by None is =
-          let nots : IsUnpublished part (next_pointer q) = subst (λ (o : Option ℕ). IsLinkBehind part o (next_pointer q)) is w.behind in
-          false≢true (sym (nots a t leads there) ∙ published)
-      by (Some b) is =
-          let to : qtd_link_of (next_pointer q) ≡ To b = subst (λ (o : Option ℕ). IsLinkBehind part o (next_pointer q)) is w.behind in
-          let k : IsIdle part b = tail b is in
-          let same : t ≡ k.qtd = found_element (part a) t k.qtd there (ap part (to_same a b (sym leads ∙ to)) ∙ k.here) in
-          false≢true (sym k.idle ∙ ap (λ (u : Qtd). u.token.active) (sym same) ∙ published)
+-- nothing is behind the request but the tail
+pub none_more : (x : Places) (part : Structures) (q : Qh) (h : Host) (a : ℕ) (t : Qtd) → qtd_link_of (next_pointer q) ≡ To a
+    → part a ≡ Some (Element t) → t.token.active ≡ true → Ends x part (host_in q) q h → ((b : ℕ) → x.behind ≡ Some b → IsIdle part b) → ⊥
+none_more x part q h a t leads there published w tail = by x.behind refl
+  where
+    by : (o : Option ℕ) → x.behind ≡ o → ⊥
+    by None is =
+        let nots : IsUnpublished part (next_pointer q) = subst (λ (o : Option ℕ). IsLinkBehind part o (next_pointer q)) is w.behind in
+        false≢true (sym (nots a t leads there) ∙ published)
+    by (Some b) is =
+        let to : qtd_link_of (next_pointer q) ≡ To b = subst (λ (o : Option ℕ). IsLinkBehind part o (next_pointer q)) is w.behind in
+        let k : IsIdle part b = tail b is in
+        let same : t ≡ k.qtd = found_element (part a) t k.qtd there (ap part (to_same a b (sym leads ∙ to)) ∙ k.here) in
+        false≢true (sym k.idle ∙ ap (λ (u : Qtd). u.token.active) (sym same) ∙ published)
 
 -- ---- a request is done
 

@@ -49,13 +49,13 @@ use Rattle.law_devices.proofs.lemmas.request_calls.Making.{makes_one}
 use Rattle.law_devices.specs.ring_requests.Laid.{Places, place_at, IsPlace, AreApart, HasBytes}
 use Rattle.law_devices.specs.ring_requests.Shown.{hand_side, AreFresh, IsPending, Works, Ends, Shows, IsAmong}
 use Rattle.law_devices.specs.ring_requests.Shown.Shows.{works, waits, ends, halts}
-use Rattle.law_devices.specs.ring_requests.Windows.{Sent, Queue, sent_at, Lines, IsWindow, IsFinished, IsBehind, HasEnded, IsActedOnce, HasTail, IsQueue, AreSent, IsElsewhere, AreWindows, Transaction, Advance, Step, opened, progressed, stepped, stage_of, is_done, IsTransactionAt, advance_at, IsStepOf, HaltedStay, WindowsGoOn}
+use Rattle.law_devices.specs.ring_requests.Windows.{Sent, Queue, sent_at, Lines, IsWindow, IsFinished, IsBehind, HasEnded, IsActedOnce, HasTail, IsQueueOf, IsQueue, AreSent, IsElsewhere, AreWindows, Transaction, Advance, Step, opened, progressed, stepped, stage_of, is_done, IsTransactionAt, advance_at, IsStepOf, HaltedStay, WindowsGoOn}
 use Rattle.law_devices.proofs.lemmas.ring_requests.Stages.{idle_still}
 use Rattle.law_devices.proofs.lemmas.ring_requests.Outcomes.{call_leaves, moved_none}
 use Rattle.law_devices.proofs.lemmas.ring_requests.Given.{sized, IsSized, stage_given}
 use Rattle.law_devices.proofs.lemmas.ring_requests.Moving.{shows_after, moved_in_data, moved_beside}
 use Rattle.law_devices.proofs.lemmas.ring_requests.Telling.{finished_once, queue_ended}
-use Rattle.law_devices.proofs.lemmas.ring_requests.Taking.{endpoint_taken, taken_shows, fresh_there as fresh_taken, taken_works, none_behind, done_is, ends_only, next_waits}
+use Rattle.law_devices.proofs.lemmas.ring_requests.Taking.{endpoint_taken, taken_shows, fresh_there as fresh_taken, taken_works, none_more, done_is, ends_only, next_waits}
 use Rattle.law_devices.proofs.lemmas.ring_requests.Writing.{endpoint_back, head_now, host_now, back_shows, among_back, fresh_there as fresh_back}
 
 -- ---- the host's side in hand
@@ -64,7 +64,7 @@ pub side_unsettled : (hand : Hand) (n : ℕ) (q : Qh) → IsUnsettled hand → h
 side_unsettled (Settled c z) n q un = absurd (un c z refl)
 side_unsettled _ n q un = refl
 
-side_here : (hand : Hand) (c : Copy) (z : Settlement) (q : Qh) → hand ≡ Settled c z → hand_side hand c.at q ≡ z.host
+pub side_here : (hand : Hand) (c : Copy) (z : Settlement) (q : Qh) → hand ≡ Settled c z → hand_side hand c.at q ≡ z.host
 side_here hand c z q is = ap (λ (h : Hand). hand_side h c.at q) is ∙ ap (λ (b : Bool). if b then z.host else host_in q) (eq-eqb c.at c.at refl)
 
 pub side_beside : (hand : Hand) (c : Copy) (z : Settlement) (n : ℕ) (q : Qh) → hand ≡ Settled c z → c.at ≢ n → hand_side hand n q ≡ host_in q
@@ -108,45 +108,71 @@ finished_same v l hand later parts now n told w = record { done = w.done; moved 
 abbrev Fresh : Queue → ℕ → Structures → Type 0
 Fresh v i part = AreFresh v.endpoint (v.requests i) (v.places i) part Setup
 
-module _ (v : Queue) (l : Lines) (hand later : Hand) (parts now : StructureSets) (n : ℕ) (o new : Option Device) (fresh : (i : ℕ) → l.under < i → i < v.count → Fresh v i (parts n) → Fresh v i (now n)) (tail : HasTail v (parts n) → HasTail v (now n)) where
-  abbrev AreTold : (ℕ → Type 0) → Type 0
-  AreTold is = (i : ℕ) → is i → (xs : List ℕ) → Told hand parts n (v.places i).data_at xs → Told later now n (v.places i).data_at xs
-
-  behind_after : (i : ℕ) → ((xs : List ℕ) → Told hand parts n (v.places i).data_at xs → Told later now n (v.places i).data_at xs) → l.under < i → i < v.count → IsBehind (sent_at v i) hand parts n → IsBehind (sent_at v i) later now n
+-- whatever is said of the request under way, before an event and after it
+module _ (window_is next_is : Sent → Line → Type 0) (v : Queue) (l : Lines) (hand later : Hand) (parts now : StructureSets) (n : ℕ)
+    (fresh : (i : ℕ) → l.under < i → i < v.count → AreFresh v.endpoint (v.requests i) (v.places i) (parts n) Setup
+    → AreFresh v.endpoint (v.requests i) (v.places i) (now n) Setup)
+    (tail : HasTail v (parts n) → HasTail v (now n)) where
+  behind_after : (i : ℕ) → ((xs : List ℕ) → Told hand parts n (v.places i).data_at xs → Told later now n (v.places i).data_at xs)
+      → l.under < i → i < v.count → IsBehind (sent_at v i) hand parts n → IsBehind (sent_at v i) later now n
   behind_after i told more few w = record { fresh = fresh i more few w.fresh; none_told = λ some. told [] (w.none_told some) }
 
   -- the request under way goes on
-  queue_goes : (line : ℕ → Line) → ((i : ℕ) → i < l.under → line i ≡ l.line i) → IsWindow (sent_at v l.under) (line l.under) later now n new
-      → ((i : ℕ) → i < v.count → i ≢ l.under → (xs : List ℕ) → Told hand parts n (v.places i).data_at xs → Told later now n (v.places i).data_at xs) → IsQueue v l hand parts n o → IsQueue v (record { under = l.under; line = line }) later now n new
-  queue_goes line same window told w = record {
+  pub queue_goes_on : (line : ℕ → Line) → ((i : ℕ) → i < l.under → line i ≡ l.line i) → next_is (sent_at v l.under) (line l.under)
+      → ((i : ℕ) → i < v.count → i ≢ l.under → (xs : List ℕ) → Told hand parts n (v.places i).data_at xs
+      → Told later now n (v.places i).data_at xs)
+      → IsQueueOf window_is v l hand parts n → IsQueueOf next_is v (record { under = l.under; line = line }) later now n
+  queue_goes_on line same window told w = record {
     within = w.within;
     window = window;
     finished = λ i less.
         let within = w.within in
         subst (λ (x : Line). IsFinished (sent_at v i) x later now n) (sym (same i less))
-        (finished_same (sent_at v i) (l.line i) hand later parts now n (told i (omega (arith, less, within)) (λ is. omega (arith, less, is))) (w.finished i less));
+        (finished_same (sent_at v i) (l.line i) hand later parts now n (told i (omega (arith, less, within)) (λ is. omega (arith, less, is)))
+        (w.finished i less));
     behind = λ i more few. behind_after i (told i few (λ is. omega (arith, more, is))) more few (w.behind i more few);
     tail = tail w.tail;
   }
 
   -- it is done
-  finished_until : IsQueue v l hand parts n o → stage_of l ≡ Done → (i : ℕ) → i < suc l.under → IsFinished (sent_at v i) (l.line i) hand parts n
-  finished_until w done i less =
-      ⊎_elim {C = IsFinished (sent_at v i) (l.line i) hand parts n}
-      (λ (same : i ≡ l.under). subst (λ (j : ℕ). IsFinished (sent_at v j) (l.line j) hand parts n) (sym same) (record { done = done; moved = w.window.moved; stands = w.window.stands }))
-      (λ (differs : i ≢ l.under). w.finished i (omega (arith, less, differs))) (cases_eq i l.under)
+  module _ (is_finished : IsFinished (sent_at v l.under) (l.line l.under) hand parts n) where
+    finished_until : IsQueueOf window_is v l hand parts n → (i : ℕ) → i < suc l.under → IsFinished (sent_at v i) (l.line i) hand parts n
+    finished_until w i less =
+        ⊎_elim {C = IsFinished (sent_at v i) (l.line i) hand parts n}
+        (λ (same : i ≡ l.under). subst (λ (j : ℕ). IsFinished (sent_at v j) (l.line j) hand parts n) (sym same) is_finished)
+        (λ (differs : i ≢ l.under). w.finished i (omega (arith, less, differs))) (cases_eq i l.under)
 
-  -- and the next one is begun
+    -- and the next one is begun
+    pub queue_goes_next : (line : ℕ → Line) → suc l.under < v.count → ((i : ℕ) → i < suc l.under → line i ≡ l.line i)
+        → next_is (sent_at v (suc l.under)) (line (suc l.under))
+        → ((i : ℕ) (xs : List ℕ) → Told hand parts n (v.places i).data_at xs → Told later now n (v.places i).data_at xs)
+        → IsQueueOf window_is v l hand parts n → IsQueueOf next_is v (record { under = suc l.under; line = line }) later now n
+    queue_goes_next line some same window told w = record {
+      within = some;
+      window = window;
+      finished = λ i less.
+          subst (λ (x : Line). IsFinished (sent_at v i) x later now n) (sym (same i less))
+          (finished_same (sent_at v i) (l.line i) hand later parts now n (told i) (finished_until w i less));
+      behind = λ i more few. behind_after i (told i) (omega (arith, more)) few (w.behind i (omega (arith, more)) few);
+      tail = tail w.tail;
+    }
+
+module _ (v : Queue) (l : Lines) (hand later : Hand) (parts now : StructureSets) (n : ℕ) (o new : Option Device) (fresh : (i : ℕ) → l.under < i → i < v.count → Fresh v i (parts n) → Fresh v i (now n)) (tail : HasTail v (parts n) → HasTail v (now n)) where
+  abbrev Before : Sent → Line → Type 0
+  Before s x = IsWindow s x hand parts n o
+
+  abbrev After : Sent → Line → Type 0
+  After s x = IsWindow s x later now n new
+
+  queue_goes : (line : ℕ → Line) → ((i : ℕ) → i < l.under → line i ≡ l.line i) → IsWindow (sent_at v l.under) (line l.under) later now n new
+      → ((i : ℕ) → i < v.count → i ≢ l.under → (xs : List ℕ) → Told hand parts n (v.places i).data_at xs → Told later now n (v.places i).data_at xs) → IsQueue v l hand parts n o → IsQueue v (record { under = l.under; line = line }) later now n new
+  queue_goes line same window told w = queue_goes_on Before After v l hand later parts now n fresh tail line same window told w
+
   queue_next : (line : ℕ → Line) → suc l.under < v.count → stage_of l ≡ Done → ((i : ℕ) → i < suc l.under → line i ≡ l.line i) → IsWindow (sent_at v (suc l.under)) (line (suc l.under)) later now n new
       → ((i : ℕ) (xs : List ℕ) → Told hand parts n (v.places i).data_at xs → Told later now n (v.places i).data_at xs) → IsQueue v l hand parts n o → IsQueue v (record { under = suc l.under; line = line }) later now n new
-  queue_next line some done same window told w = record {
-    within = some;
-    window = window;
-    finished = λ i less.
-        subst (λ (x : Line). IsFinished (sent_at v i) x later now n) (sym (same i less)) (finished_same (sent_at v i) (l.line i) hand later parts now n (told i) (finished_until w done i less));
-    behind = λ i more few. behind_after i (told i) (omega (arith, more)) few (w.behind i (omega (arith, more)) few);
-    tail = tail w.tail;
-  }
+  queue_next line some done same window told w =
+      queue_goes_next Before After v l hand later parts now n fresh tail (record { done = done; moved = w.window.moved; stands = w.window.stands })
+      line some same window told w
 
 -- all of them go on as they were
 pub queue_same : (v : Queue) (l : Lines) (hand later : Hand) (parts now : StructureSets) (n : ℕ) (o : Option Device) → now n ≡ parts n → ((q : Qh) → hand_side later n q ≡ hand_side hand n q)
@@ -293,7 +319,7 @@ module _ {W : Type 0} (transacts : W → Ask → List ℕ → Reply → W → Ty
             ⊎_elim {C = suc began < mine.count} (λ (some : suc began < mine.count). some)
             (λ (none : mine.count ≤ suc began).
             let within = w.within in
-            absurd (none_behind mine.endpoint (mine.requests began) (mine.places began) (parts n) n k.copy.queue line_began.host here control_taken k.element k.qtd k.idle k.goes_on k.leads there k.published ended (λ b is. w.tail began b (omega (arith, none, within)) is))) (cases_lt (suc began) mine.count)
+            absurd (none_more (mine.places began) (parts n) k.copy.queue line_began.host k.element k.qtd k.leads there k.published ended (λ b is. w.tail began b (omega (arith, none, within)) is))) (cases_lt (suc began) mine.count)
 
         next : IsBehind (sent_at (sent n) (suc (lines n).under)) hand parts n
         next = w.behind (suc began) (omega (arith)) more

@@ -32,10 +32,10 @@ use Rattle.law_driver.proofs.lemmas.planned_endpoints.Laws.{what_counts_is_an_en
 use Rattle.law_queues.specs.open_laws.Opens.{AreNamesApart}
 use Rattle.law_world.specs.memory.Mixed.{IsMixedWorld}
 use Rattle.law_world.proofs.lemmas.memory.Together.{texts_stay_mixed}
-use Rattle.law_hub_plans.specs.HubPlans.{AreKeysApart}
-use Rattle.claims_translators.specs.HubPlans.{is_below, key_by, key_at}
-use Rattle.law_hub_plans.specs.Laws.{IsPlacedRight}
-use Rattle.law_hub_plans.proofs.PlansFit.{hub_plans_fit}
+use Rattle.law_translator.specs.hub_plans.HubPlans.{AreKeysApart}
+use Rattle.claims_world.specs.HubPlans.{is_below, key_by, key_at}
+use Rattle.law_translator.specs.hub_plans.Laws.{IsPlacedRight}
+use Rattle.law_translator.proofs.lemmas.hub_plans.PlansFit.{hub_plans_fit}
 use Rattle.law_microframes.specs.plans.Laws.{PlacesAreRight, TextsPlanHubs}
 use Rattle.law_microframes.proofs.lemmas.plans.Right.{scripts_place_right}
 use Rattle.law_microframes.proofs.lemmas.plans.Apart.{scripts_name_apart}

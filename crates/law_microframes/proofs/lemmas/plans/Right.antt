@@ -32,7 +32,7 @@ use Rattle.law_world.specs.steps.receiving_runs.Runs.{KindOfLine, IsKeptBy}
 use Rattle.law_world.proofs.lemmas.steps.lemmas.receiving_runs.Runs.{holds_throughout}
 use Rattle.bus_wire.specs.Bus.{fixed_of}
 use Rattle.bus_world.specs.World.{World, driver_parts, name_in, commanded, commanded_by}
-use Rattle.law_hub_plans.specs.Laws.{IsPlacedRight}
+use Rattle.law_translator.specs.hub_plans.Laws.{IsPlacedRight}
 use Rattle.law_microframes.specs.plans.Laws.{PlacesAreRight, ScriptsPlaceRight}
 
 abbrev pub AnyCommand : Cmd → Type 0

@@ -52,8 +52,8 @@ use Rattle.law_world.specs.memory.Mixed.{Standing, IsMixedAt}
 use Rattle.law_world.specs.memory.framed_memory.Masks.{HasMasks}
 use Rattle.law_world.proofs.lemmas.memory.lemmas.framed_memory.ChainedRuns.{chained_head_is_in_range}
 use Rattle.law_translator.specs.Premises.{IsFirst, FollowsRow}
-use Rattle.law_hub_plans.specs.HubPlans.{AreKeysApart}
-use Rattle.law_hub_plans.specs.Laws.{IsPlacedRight}
+use Rattle.law_translator.specs.hub_plans.HubPlans.{AreKeysApart}
+use Rattle.law_translator.specs.hub_plans.Laws.{IsPlacedRight}
 use Rattle.law_microframes.specs.plans.Laws.{PlacesAreRight}
 use Rattle.law_microframes.specs.visits.Belonging.{placed_of, IsQueueAt, HaveFields, HeadsHaveFields}
 use Rattle.law_microframes.specs.time.DataQueues.{pid_of, way_of, ReadsData}
@@ -68,9 +68,9 @@ use Rattle.law_microframes.proofs.lemmas.translators.Interrupts.{StartsNow, its_
 use Rattle.law_microframes.proofs.lemmas.translators.Owned.{owned_planned}
 use Rattle.law_microframes.proofs.lemmas.translators.Placing.{one_of, IsOneBit, only_first}
 use Rattle.law_microframes.proofs.lemmas.translators.QueueOpen.{queue_open}
-use Rattle.claims_translators.specs.Plans.{Plan}
-use Rattle.claims_translators.specs.HubPlans.{is_below, placed_below, key_at, is_number, plans_now}
-use Rattle.claims_translators.specs.Pipelines.{port_at}
+use Rattle.claims_world.specs.Plans.{Plan}
+use Rattle.claims_world.specs.HubPlans.{is_below, placed_below, key_at, is_number, plans_now}
+use Rattle.claims_world.specs.Pipelines.{port_at}
 use Rattle.usb_base.specs.declared.packets.Dir.TheVariants as dirs
 use Rattle.usb_base.specs.declared.packets.EpKind.TheVariants as kinds
 use Rattle.usb_base.specs.declared.packets.Speed.TheVariants as speeds

@@ -35,13 +35,13 @@ use Rattle.bus_wire.specs.Asking.{hub_after, translator_after, put_at, changed_a
 use Rattle.bus_wire.specs.Below.{Floor, Below, below_at, below_reply, below_after, floor_left, hubs_worked}
 use Rattle.bus_wire.specs.Bus.{Bus, Fixed, floor_of, begin_after, stuff_of, hears_plain, hears, asked_at, bus_row, changed_by, after_at, transact_after}
 use Rattle.law_translator.specs.Plans.{Fits}
-use Rattle.claims_translators.specs.Plans.{Plan}
+use Rattle.claims_world.specs.Plans.{Plan}
 use Rattle.law_translator.specs.Frames.{Frame}
 use Rattle.law_translator.specs.Premises.{Follows}
 use Rattle.law_microframes.proofs.lemmas.due.lemmas.repeats.Lists.{position_passes}
 use Rattle.law_microframes.specs.translators.Watching.{frame_of, AllAt, HubHolds, HubsHold, StartFollows}
-use Rattle.claims_translators.specs.Gaps.{watched_of, gaps_worked, gaps_in, gaps_begun}
-use Rattle.claims_translators.specs.Pipelines.{port_at, StuffsAtMost}
+use Rattle.claims_world.specs.Gaps.{watched_of, gaps_worked, gaps_in, gaps_begun}
+use Rattle.claims_world.specs.Pipelines.{port_at, StuffsAtMost}
 use Rattle.law_microframes.proofs.lemmas.translators.Watching.{IsKept, replies_by, worked_as, starts_keep, completes_keep, clears_keep, works_keep}
 
 -- ---- lists of which each element is so by its place

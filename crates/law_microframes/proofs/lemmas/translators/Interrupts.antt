@@ -23,9 +23,9 @@ use Rattle.transactions.specs.Asks.{ask_of, sends, start_split}
 use Rattle.hc_copy.specs.Planning.{pid_at, speed_at, queue_pipe, split_at}
 use Rattle.hc_copy.specs.Transacting.{call_in}
 use Rattle.hc_interrupt.specs.Turns.{planned}
-use Rattle.claims_translators.specs.Plans.{Plan}
+use Rattle.claims_world.specs.Plans.{Plan}
 use Rattle.law_translator.specs.Premises.{IsFirst}
-use Rattle.claims_translators.specs.HubPlans.{time_in}
+use Rattle.claims_world.specs.HubPlans.{time_in}
 use Rattle.law_microframes.proofs.lemmas.translators.Placing.{IsPlannedAs}
 
 more_times : (s : Speed) (k : EpKind) (a b : ℕ) → a ≤ b → byte_times s k a ≤ byte_times s k b

@@ -16,9 +16,9 @@ use Rattle.tt_pipeline.specs.Work.{fresh, joined, moved, is_due, answered}
 use Rattle.tt_pipeline.specs.Working.{budget, used_at, first_reply, later_replies}
 use Rattle.hub_class.specs.HubContent.{HubContent}
 use Rattle.law_translator.specs.Plans.{Fits}
-use Rattle.claims_translators.specs.Plans.{Plan}
+use Rattle.claims_world.specs.Plans.{Plan}
 use Rattle.law_translator.specs.Frames.{Event, Start, Complete, Work, Drop, Replan, Clear, Frame, is_of, changed, begun, worked_all, next, entries_of}
-use Rattle.claims_translators.specs.Watched.{Watched}
+use Rattle.claims_world.specs.Watched.{Watched}
 use Rattle.law_translator.specs.Premises.{IsLaidAs, AllLaidAs}
 use Rattle.law_translator.proofs.Holds.{Holds}
 use Rattle.law_translator.proofs.Keeps.{keeps, opening_holds}
@@ -26,8 +26,8 @@ use Rattle.law_translator.proofs.KeepsStuffed.{HoldsStuffed, stuffed_keeps, stuf
 use Rattle.law_translator.proofs.Owing.{Coming}
 use Rattle.law_translator.proofs.Work.{All, AllOwe}
 use Rattle.law_microframes.specs.translators.Watching.{HasKey, HaveKeys, WithKeys, frame_of, HubHolds, HubsHold}
-use Rattle.claims_translators.specs.Gaps.{watched_of}
-use Rattle.claims_translators.specs.Pipelines.{port_at}
+use Rattle.claims_world.specs.Gaps.{watched_of}
+use Rattle.claims_world.specs.Pipelines.{port_at}
 use Rattle.law_microframes.proofs.lemmas.translators.Watching.{StartIsOwn, IsKept}
 use Rattle.law_microframes.proofs.lemmas.translators.Hubs.{at_more}
 

@@ -5,7 +5,7 @@ use Rattle.std.specs.Prelude.{◌&&◌, nat_le, nat_lt}
 use Rattle.std.specs.List.{AllByRecursion, flat_map, range_with_len}
 use Rattle.std.proofs.lemmas.Bool.{true≢false, cases_lt}
 use Rattle.std.proofs.lemmas.Bool.Decides.{nat_tests}
-use Rattle.law_hub_plans.proofs.Common.{all_joined, one_of}
+use Rattle.law_translator.proofs.lemmas.hub_plans.Common.{all_joined, one_of}
 use Rattle.usb_base.specs.Cost.{byte_times}
 use Rattle.usb_base.specs.declared.packets.Dir.{Dir}
 use Rattle.usb_base.specs.declared.packets.Dir.TheVariants as dirs
@@ -17,7 +17,7 @@ use Rattle.bandwidth.specs.declared.placements.Placement.{Placement}
 use Rattle.bandwidth.specs.declared.placements.Want.{Want}
 use Rattle.bandwidth.specs.Placements.{IsWant, PlacementRow, first_in, run, is_classic, most_bytes, classic_row, high_row, interrupt_row, placement_row, placement_at, frame_period, in_phase, allowed}
 use Rattle.bandwidth.proofs.Spans.{span_of, has_mask}
-use Rattle.claims_translators.specs.HubPlans.{time_in}
+use Rattle.claims_world.specs.HubPlans.{time_in}
 use Rattle.law_microframes.specs.translators.Told.{IsLastIn, HasAnswer, LastCompletesAreLate}
 
 -- the last of a run of microframes is no earlier than its end

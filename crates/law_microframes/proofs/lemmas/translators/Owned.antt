@@ -29,8 +29,8 @@ use Rattle.bus_world.specs.World.{World, driver_parts, driver_next, name_in, com
 use Rattle.claims_driver.specs.Unlinked.{IsOpenAt}
 use Rattle.claims_world.specs.Visits.{frame_in}
 use Rattle.law_translator.specs.Plans.{Fits}
-use Rattle.law_hub_plans.specs.HubPlans.{AreKeysApart}
-use Rattle.claims_translators.specs.HubPlans.{is_below, placed_below, key_by, key_at, plan_at, no_plan, is_number, if_number, plans_now}
+use Rattle.law_translator.specs.hub_plans.HubPlans.{AreKeysApart}
+use Rattle.claims_world.specs.HubPlans.{is_below, placed_below, key_by, key_at, plan_at, no_plan, is_number, if_number, plans_now}
 use Rattle.law_microframes.specs.plans.Plans.{HubPlansFitIn}
 use Rattle.law_microframes.proofs.lemmas.visits.BelongSeen.{Seen, seen_in, IsSeenIn, seen_there, row_seen}
 use Rattle.law_microframes.proofs.lemmas.visits.BelongPlan.{row_more}

@@ -16,12 +16,12 @@ use Rattle.bandwidth.specs.declared.placements.Placed.{Placed}
 use Rattle.bandwidth.specs.Placements.{has, first_in, run, below, frame_period, is_classic, classic_row, high_row, placement_row, placement_at, in_phase, allowed}
 use Rattle.bandwidth.proofs.Microframes.{first_is}
 use Rattle.bandwidth.proofs.Spans.{has_mask}
-use Rattle.claims_translators.specs.Plans.{Plan}
+use Rattle.claims_world.specs.Plans.{Plan}
 use Rattle.law_translator.specs.Premises.{In, IsLaidAs}
-use Rattle.law_hub_plans.specs.HubPlans.{AreKeysApart}
-use Rattle.claims_translators.specs.HubPlans.{is_below, placed_below, time_in, hub_plan}
-use Rattle.law_hub_plans.specs.Laws.{IsKeptIn}
-use Rattle.law_hub_plans.proofs.Places.{places_are_kept}
+use Rattle.law_translator.specs.hub_plans.HubPlans.{AreKeysApart}
+use Rattle.claims_world.specs.HubPlans.{is_below, placed_below, time_in, hub_plan}
+use Rattle.law_translator.specs.hub_plans.Laws.{IsKeptIn}
+use Rattle.law_translator.proofs.lemmas.hub_plans.Places.{places_are_kept}
 
 -- ---- lists
 

@@ -3,21 +3,21 @@ use Rattle.std.proofs.Common.{ℕ, ◌%◌, List}
 use Rattle.hub_keys.specs.declared.key.Key.{Key}
 use Rattle.bus_world.specs.World.{World}
 use Rattle.bus_world.specs.Budgets.{moment}
-use Rattle.claims_translators.specs.Plans.{Plan}
+use Rattle.claims_world.specs.Plans.{Plan}
 use Rattle.law_translator.specs.Frames.{Frame}
-use Rattle.claims_translators.specs.Watched.{Watched}
-use Rattle.claims_translators.specs.KeepsUp.{AllKeepUp, AllKeepUpStuffed}
-use Rattle.claims_translators.specs.Answered.{AllAnswered}
+use Rattle.claims_world.specs.Watched.{Watched}
+use Rattle.claims_world.specs.KeepsUp.{AllKeepUp, AllKeepUpStuffed}
+use Rattle.claims_world.specs.Answered.{AllAnswered}
 use Rattle.law_translator.proofs.Holds.{Holds}
 use Rattle.law_translator.proofs.Keeps.{all_kept}
 use Rattle.law_translator.proofs.KeepsStuffed.{HoldsStuffed}
 use Rattle.law_translator.proofs.KeepsStuffed as Bits
 use Rattle.law_translator.proofs.Answered.{all_owed, all_settled}
 use Rattle.law_microframes.specs.translators.Watching.{frame_of, HubHolds}
-use Rattle.claims_translators.specs.Pipelines.{port_at, EachPipeline}
+use Rattle.claims_world.specs.Pipelines.{port_at, EachPipeline}
 use Rattle.law_microframes.specs.translators.Keeping.{IsRight, WorldKeeps}
-use Rattle.claims_translators.specs.HubPlans.{plans_now}
-use Rattle.claims_translators.specs.Gaps.{gaps}
+use Rattle.claims_world.specs.HubPlans.{plans_now}
+use Rattle.claims_world.specs.Gaps.{gaps}
 use Rattle.law_microframes.specs.translators.Laws.{AlongRuns, EntriesStayOwned}
 use Rattle.law_microframes.proofs.lemmas.translators.Watching.{IsKept}
 use Rattle.law_microframes.proofs.lemmas.translators.Hubs.{at_get}

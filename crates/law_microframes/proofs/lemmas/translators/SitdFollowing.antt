@@ -23,7 +23,7 @@ use Rattle.law_world.specs.memory.Mixed.{IsMixedWorld}
 use Rattle.law_world.proofs.lemmas.memory.FittingTexts.{texts_open_fitting}
 use Rattle.law_world.proofs.lemmas.memory.Texts.{texts_fit}
 use Rattle.law_world.proofs.lemmas.memory.Together.{texts_stay_mixed}
-use Rattle.claims_translators.specs.HubPlans.{is_below, key_at}
+use Rattle.claims_world.specs.HubPlans.{is_below, key_at}
 use Rattle.law_microframes.specs.visits.Began.{began}
 use Rattle.law_microframes.specs.visits.Belonging.{IsDescriptorAt}
 use Rattle.law_microframes.specs.visits.Visited.{WasVisited, IsFramedAs, IsVisiting}

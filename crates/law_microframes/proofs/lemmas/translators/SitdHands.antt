@@ -37,8 +37,8 @@ use Rattle.law_budgets.specs.visit_prices.Spent.{placed_as}
 use Rattle.law_driver.specs.queued_drivers.Queued.{IsOfWay, FitsKind}
 use Rattle.law_frames.specs.Met.{ASitd}
 use Rattle.law_world.specs.memory.Mixed.{Standing, IsMixedAt}
-use Rattle.law_hub_plans.specs.HubPlans.{AreKeysApart}
-use Rattle.law_hub_plans.specs.Laws.{IsPlacedRight}
+use Rattle.law_translator.specs.hub_plans.HubPlans.{AreKeysApart}
+use Rattle.law_translator.specs.hub_plans.Laws.{IsPlacedRight}
 use Rattle.law_microframes.specs.plans.Laws.{PlacesAreRight}
 use Rattle.law_microframes.specs.visits.Belonging.{placed_of, IsDescriptorAt}
 use Rattle.law_microframes.specs.visits.OneDescriptor.{IsActiveSome, AreServed}
@@ -57,8 +57,8 @@ use Rattle.law_microframes.proofs.lemmas.translators.Hands.{numbered}
 use Rattle.law_microframes.proofs.lemmas.translators.Owned.{owned_planned}
 use Rattle.law_microframes.proofs.lemmas.translators.Placing.{one_of}
 use Rattle.law_microframes.proofs.lemmas.translators.SitdStarts.{in_ask, out_ask, in_transaction, out_transaction, in_key, in_follows, out_key, out_follows}
-use Rattle.claims_translators.specs.HubPlans.{is_below, placed_below, key_at, is_number, plans_now}
-use Rattle.claims_translators.specs.Pipelines.{port_at}
+use Rattle.claims_world.specs.HubPlans.{is_below, placed_below, key_at, is_number, plans_now}
+use Rattle.claims_world.specs.Pipelines.{port_at}
 use Rattle.law_microframes.proofs.lemmas.translators.SitdCopies.{IsCopyOf, copy_of}
 use Rattle.usb_base.specs.declared.packets.EpKind.TheVariants as kinds
 use Rattle.usb_base.specs.declared.packets.Speed.TheVariants as speeds

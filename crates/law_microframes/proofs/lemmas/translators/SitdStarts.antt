@@ -34,7 +34,7 @@ use Rattle.drv_periodic_table.specs.Descriptors.{parts_of}
 use Rattle.drv_periodic_table.specs.Periodic.{dir_of}
 use Rattle.claims_world.specs.FrameHeads.{IsAllowed}
 use Rattle.law_budgets.specs.visit_prices.Spent.{placed_as}
-use Rattle.claims_translators.specs.Plans.{Plan}
+use Rattle.claims_world.specs.Plans.{Plan}
 use Rattle.law_translator.specs.Premises.{FirstPart, IsFirst, LaterPart, IsLater, LaterOf, FollowsRow, Follows}
 use Rattle.law_microframes.specs.time.SitdFields.{sitd_name, IsSitdAs}
 use Rattle.law_microframes.specs.time.SitdParts.{marks, position_of, is_in}

@@ -43,8 +43,8 @@ use Rattle.law_world.specs.memory.Mixed.{Standing, IsMixedAt, IsMixedWorld}
 use Rattle.law_world.proofs.lemmas.memory.FittingTexts.{texts_open_fitting}
 use Rattle.law_world.proofs.lemmas.memory.Texts.{texts_fit}
 use Rattle.law_world.proofs.lemmas.memory.Together.{texts_stay_mixed}
-use Rattle.law_hub_plans.specs.HubPlans.{AreKeysApart}
-use Rattle.claims_translators.specs.HubPlans.{is_below, placed_below, key_at, plans_now}
+use Rattle.law_translator.specs.hub_plans.HubPlans.{AreKeysApart}
+use Rattle.claims_world.specs.HubPlans.{is_below, placed_below, key_at, plans_now}
 use Rattle.law_microframes.specs.plans.Laws.{PlacesAreRight}
 use Rattle.law_microframes.specs.visits.Began.{began}
 use Rattle.law_microframes.specs.visits.Belonging.{IsQueueAt, HeadsHaveFields}
@@ -124,7 +124,7 @@ module _ (s : Script) (st : Standing) (w : World) (k : IsMixedAt st w) (fields :
       ∙ unset in cc)
   by_hand h _ told held is = absurd (let e = sym told ∙ held in cc)
 
-  queue_asks : (h : HeldQueue) → w.control.frame.hand ≡ Some (hands.Queue h) → QueueAsks Fair h w.control.frame.index
+  pub queue_asks : (h : HeldQueue) → w.control.frame.hand ≡ Some (hands.Queue h) → QueueAsks Fair h w.control.frame.index
   queue_asks h held =
       let walk : IsFrameWalk (met w.driver st.recent) (both st.descs st.parts) st.frame
       (frame_place (controller_parts w)) = k.now.framed.runs.walk periodic in
@@ -179,6 +179,19 @@ module _ (text : List ℕ) (s : Script) (spelled : Spells text s) (k : ℕ) wher
   pub moment_apart : (hub port f : ℕ) → AreKeysApart (key_at o.driver) (placed_below hub port f o.driver.periodic.plan.placed)
   moment_apart hub port f =
       kept_apart (key_at o.driver) (is_below hub port f) o.driver.periodic.plan.placed (texts_plan_apart text s spelled k)
+
+  -- each queue head in hand asks as its plan calls for
+  pub moment_queue_asks : o.control.part ≡ Periodic → (h : HeldQueue) → o.control.frame.hand ≡ Some (hands.Queue h)
+      → QueueAsks (λ ask out. StartFollows (IsOwned o.driver o.registers.frame_index) (plans_now o.driver o.registers.frame_index)
+      (o.registers.frame_index % 8) o.bus.hubs ask (length out)) h o.control.frame.index
+  moment_queue_asks periodic =
+      let fit = spelled_fits text s spelled in
+      let bytes = a_text_spells_bytes text s spelled in
+      let opens = lines_fit s.lines (texts_fit text s spelled) (texts_open_fitting text s spelled) in
+      let mixed : IsMixedWorld o = texts_stay_mixed text s spelled k in
+      queue_asks s mixed.standing o mixed.mixed (scripts_keep_fields s fit bytes opens k) (scripts_read_data s fit bytes opens k)
+      (texts_stand text s spelled k) (λ x heard. each_bus_hears s x heard k) (scripts_place_right s fit k) moment_apart
+      (moment_frames periodic) periodic (scripts_have_index s fit k periodic)
 
   pub moment_starts : SitdsFollow o → StartsFollow o
   moment_starts sitds ask out a =

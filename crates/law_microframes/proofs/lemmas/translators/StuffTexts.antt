@@ -20,7 +20,7 @@ use Rattle.bus_wire.specs.Bus.{fixed_of, stuff_of}
 use Rattle.bus_wire.specs.Seats.{owner_at, seat_at, seats_from, hub_seats_from, seat_named, device_seats, seats_of}
 use Rattle.law_devices.proofs.Lists.{all_change, all_find, all_filter_map}
 use Rattle.law_microframes.proofs.lemmas.due.lemmas.repeats.SaidTexts.{spelled_said}
-use Rattle.claims_translators.specs.Pipelines.{StuffsAtMost}
+use Rattle.claims_world.specs.Pipelines.{StuffsAtMost}
 use Rattle.usb_base.specs.declared.commands.Cmd.TheVariants as cmd
 use Rattle.usb_base.specs.declared.packets.Way.TheVariants as way
 use Rattle.script_forms.specs.declared.statements.Statement.TheVariants as says

@@ -18,13 +18,13 @@ use Rattle.drv_table.specs.DriverContent.{DriverContent}
 use Rattle.tt_pipeline.specs.declared.entry.Entry.{Entry}
 use Rattle.bus_world.specs.World.{World}
 use Rattle.bus_world.specs.Budgets.{moment}
-use Rattle.claims_translators.specs.Answered.{end_of, AllAnswered}
-use Rattle.claims_translators.specs.Gaps.{watched_of, gaps}
-use Rattle.claims_translators.specs.HubPlans.{key_at, placed_below, time_in, plans_now}
-use Rattle.claims_translators.specs.Pipelines.{port_at}
+use Rattle.claims_world.specs.Answered.{end_of, AllAnswered}
+use Rattle.claims_world.specs.Gaps.{watched_of, gaps}
+use Rattle.claims_world.specs.HubPlans.{key_at, placed_below, time_in, plans_now}
+use Rattle.claims_world.specs.Pipelines.{port_at}
 use Rattle.law_budgets.specs.visit_prices.Spent.{placed_as}
-use Rattle.law_hub_plans.specs.HubPlans.{AreKeysApart}
-use Rattle.law_hub_plans.specs.Laws.{IsPlacedRight}
+use Rattle.law_translator.specs.hub_plans.HubPlans.{AreKeysApart}
+use Rattle.law_translator.specs.hub_plans.Laws.{IsPlacedRight}
 use Rattle.law_translator.proofs.Answered.{all_settled}
 use Rattle.law_translator.proofs.KeepsStuffed.{HoldsStuffed}
 use Rattle.law_microframes.specs.plans.Laws.{PlacesAreRight}

@@ -18,7 +18,7 @@ use Rattle.bus_wire.specs.Bus.{Fixed}
 use Rattle.bus_world.specs.World.{World, controller_parts, controller_row, turned_by, with_turned}
 use Rattle.law_world.specs.memory.Mixed.{IsMixedWorld}
 use Rattle.law_microframes.specs.translators.Parts.{EachOf, IsEven}
-use Rattle.claims_translators.specs.Gaps.{pipeline_in}
+use Rattle.claims_world.specs.Gaps.{pipeline_in}
 use Rattle.law_microframes.specs.translators.Turns.{entries_at, entries_of_hub, entries_by, pipeline_for, IsInHand, BroughtPart, OutsGoOn, EndKeepsOuts, IdleKeepsOuts, NewOutsGoOn}
 use Rattle.law_microframes.proofs.lemmas.visits.VisitControlling.{past_over}
 

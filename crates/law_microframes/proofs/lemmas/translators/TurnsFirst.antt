@@ -19,19 +19,19 @@ use Rattle.multi_tt.specs.Single.{is_buffered}
 use Rattle.multi_tt.specs.Translators.{Translator, place_of}
 use Rattle.hub_class.specs.HubContent.{HubContent}
 use Rattle.bus_world.specs.World.{World}
-use Rattle.claims_translators.specs.Plans.{Plan}
+use Rattle.claims_world.specs.Plans.{Plan}
 use Rattle.law_translator.specs.Frames.{Frame}
 use Rattle.law_translator.specs.Premises.{FollowsRow, Follows}
 use Rattle.law_translator.proofs.Keys.{same_key}
 use Rattle.law_translator.proofs.Owing.{Came, unseen, partial, ended, Seen, Coming}
 use Rattle.law_translator.proofs.Work.{All}
 use Rattle.law_microframes.specs.translators.Keeping.{IsOwned, IsRight, WorldKeeps}
-use Rattle.claims_translators.specs.HubPlans.{plans_now}
+use Rattle.claims_world.specs.HubPlans.{plans_now}
 use Rattle.law_microframes.specs.translators.Parts.{EachOf, Lacks, IsEven}
 use Rattle.law_microframes.specs.translators.Turns.{entries_at, entries_of_hub, entries_by, pipeline_for}
 use Rattle.law_microframes.specs.translators.Watching.{frame_of, HubHolds, StartFollows}
-use Rattle.claims_translators.specs.Gaps.{watched_of, pipeline_in}
-use Rattle.claims_translators.specs.Pipelines.{port_at}
+use Rattle.claims_world.specs.Gaps.{watched_of, pipeline_in}
+use Rattle.claims_world.specs.Pipelines.{port_at}
 use Rattle.law_microframes.proofs.lemmas.due.lemmas.repeats.Lists.{position_passes}
 use Rattle.law_microframes.proofs.lemmas.translators.Hubs.{at_get}
 use Rattle.law_microframes.proofs.lemmas.translators.Kept.{Any}

@@ -11,7 +11,7 @@ use Rattle.hub_class.specs.HubContent.{HubContent}
 use Rattle.hub_class.specs.Microframe.{wire_of_translator, translators_worked}
 use Rattle.bus_wire.specs.Below.{Floor, Below, below_at, below_reply, below_after, floor_left, hubs_worked}
 use Rattle.bus_wire.specs.Bus.{Bus, Fixed, floor_of, begin_after}
-use Rattle.claims_translators.specs.Gaps.{pipeline_in}
+use Rattle.claims_world.specs.Gaps.{pipeline_in}
 use Rattle.law_microframes.specs.translators.Parts.{EachOf, Lacks, IsEven}
 use Rattle.law_microframes.specs.translators.Turns.{entries_at, entries_of_hub, entries_by, pipeline_for}
 use Rattle.law_microframes.proofs.lemmas.translators.Parts.{work_leaves_lacking, work_makes_even}

@@ -28,15 +28,15 @@ use Rattle.law_world.proofs.lemmas.memory.FittingTexts.{texts_open_fitting}
 use Rattle.law_world.proofs.lemmas.memory.Texts.{texts_fit}
 use Rattle.law_translator.specs.Frames.{Frame}
 use Rattle.law_translator.proofs.KeepsStuffed.{HoldsStuffed}
-use Rattle.law_hub_plans.specs.HubPlans.{AreKeysApart}
-use Rattle.claims_translators.specs.HubPlans.{placed_below, key_at, plans_now}
+use Rattle.law_translator.specs.hub_plans.HubPlans.{AreKeysApart}
+use Rattle.claims_world.specs.HubPlans.{placed_below, key_at, plans_now}
 use Rattle.law_microframes.specs.plans.Plans.{HubPlansFitIn}
 use Rattle.law_microframes.specs.translators.Parts.{EachOf, Lacks, IsEven}
 use Rattle.law_microframes.specs.translators.Keeping.{IsOwned, SitdsFollow, PartsAreLacked, WorldKeeps, IsKnown}
-use Rattle.claims_translators.specs.Gaps.{gaps_next, no_gaps, gaps}
+use Rattle.claims_world.specs.Gaps.{gaps_next, no_gaps, gaps}
 use Rattle.law_microframes.specs.translators.Turns.{pipeline_for, OutsGoOn}
 use Rattle.law_microframes.specs.translators.Watching.{StartFollows}
-use Rattle.claims_translators.specs.Pipelines.{StuffsAtMost}
+use Rattle.claims_world.specs.Pipelines.{StuffsAtMost}
 use Rattle.law_microframes.specs.visits.Began.{began_at, began_by, began}
 use Rattle.law_microframes.proofs.lemmas.plans.Apart.{scripts_name_apart}
 use Rattle.law_microframes.proofs.lemmas.plans.Keys.{texts_plan_hubs}

@@ -4,12 +4,12 @@ use Rattle.script_types.specs.declared.scripts.Script.{Script}
 use Rattle.script_text.specs.Faults.{Spells}
 use Rattle.bus_wire.specs.Bus.{fixed_of}
 use Rattle.bus_world.specs.Budgets.{moment}
-use Rattle.claims_translators.specs.Plans.{Plan}
-use Rattle.claims_translators.specs.Watched.{Watched}
-use Rattle.claims_translators.specs.KeepsUp.{AllKeepUp, AllKeepUpStuffed}
-use Rattle.claims_translators.specs.Answered.{AllAnswered}
-use Rattle.claims_translators.specs.Pipelines.{StuffsAtMost, EachPipeline}
-use Rattle.claims_translators.specs.Gaps.{gaps}
+use Rattle.claims_world.specs.Plans.{Plan}
+use Rattle.claims_world.specs.Watched.{Watched}
+use Rattle.claims_world.specs.KeepsUp.{AllKeepUp, AllKeepUpStuffed}
+use Rattle.claims_world.specs.Answered.{AllAnswered}
+use Rattle.claims_world.specs.Pipelines.{StuffsAtMost, EachPipeline}
+use Rattle.claims_world.specs.Gaps.{gaps}
 use Rattle.law_microframes.specs.translators.Laws.{AlongRuns, TextsKeepTranslators}
 use Rattle.law_microframes.proofs.lemmas.translators.Promises.{keep_up, answer_in_time, stuffed_keep_up, stuffed_answer_in_time}
 use Rattle.law_microframes.proofs.lemmas.translators.SitdFollowing.{sitds_follow}

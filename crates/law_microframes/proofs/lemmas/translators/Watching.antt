@@ -19,14 +19,14 @@ use Rattle.tt_pipeline.specs.Starting.{has_key, with_first, without_first, witho
 use Rattle.tt_pipeline.specs.Work.{fresh, joined, moved, is_due, answered, called}
 use Rattle.tt_pipeline.specs.Working.{budget, used_at, turned, turned_all, first_reply, later_replies, reply_at, wire_turned, entries_after}
 use Rattle.law_translator.specs.Plans.{Fits}
-use Rattle.claims_translators.specs.Plans.{Plan}
+use Rattle.claims_world.specs.Plans.{Plan}
 use Rattle.law_translator.specs.Frames.{Event, Start, Complete, Work, Replan, Clear, Frame, is_of, changed, begun, worked_all, next, opening, entries_of}
-use Rattle.claims_translators.specs.Watched.{Watched, gap_between, gap_of}
+use Rattle.claims_world.specs.Watched.{Watched, gap_between, gap_of}
 use Rattle.law_translator.specs.Premises.{In, Fair, Follows, AllLaidAs}
 use Rattle.law_translator.proofs.Keys.{Distinct, same_key}
 use Rattle.law_translator.proofs.Owing.{Grew, same, more, Coming, called_partial}
 use Rattle.law_translator.proofs.Work.{keys_of, All}
-use Rattle.claims_translators.specs.Gaps.{is_seen, gaps_at, watched_one, watched_of, gaps_more, gaps_worked}
+use Rattle.claims_world.specs.Gaps.{is_seen, gaps_at, watched_one, watched_of, gaps_more, gaps_worked}
 
 -- ---- what is kept by the events of a frame
 

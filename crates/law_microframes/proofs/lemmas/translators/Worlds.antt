@@ -59,12 +59,12 @@ use Rattle.law_translator.specs.Plans.{Fits}
 use Rattle.law_translator.specs.Frames.{Frame}
 use Rattle.law_microframes.proofs.lemmas.visits.ReasonParts.{command_bus}
 use Rattle.law_microframes.proofs.lemmas.time.PaymentIsochronous.{driver_index}
-use Rattle.law_hub_plans.specs.HubPlans.{AreKeysApart}
-use Rattle.claims_translators.specs.HubPlans.{placed_below, key_at, plans_now}
+use Rattle.law_translator.specs.hub_plans.HubPlans.{AreKeysApart}
+use Rattle.claims_world.specs.HubPlans.{placed_below, key_at, plans_now}
 use Rattle.law_microframes.specs.plans.Plans.{HubPlansFitIn}
 use Rattle.law_microframes.specs.translators.Watching.{frame_of, AllAt, HubsHold, StartFollows}
-use Rattle.claims_translators.specs.Pipelines.{port_at, StuffsAtMost}
-use Rattle.claims_translators.specs.Gaps.{gaps_begun, gaps_after, gaps_next, no_gaps, gaps}
+use Rattle.claims_world.specs.Pipelines.{port_at, StuffsAtMost}
+use Rattle.claims_world.specs.Gaps.{gaps_begun, gaps_after, gaps_next, no_gaps, gaps}
 use Rattle.law_microframes.specs.translators.Keeping.{IsOwned, IsRight, WorldKeeps, IsKnown}
 use Rattle.law_microframes.proofs.lemmas.translators.Watching.{IsKept}
 use Rattle.law_microframes.proofs.lemmas.translators.Hubs.{begins_work, begins_drop, asks_keep}

@@ -7,9 +7,21 @@
 --                            complete-split
 --     lost_in, again_in      how many transactions lost a packet in the microframe, and the price of what was made again, after k of them
 --     without_hub            the same world without its hub
-use Rattle.std.specs.Prelude.{ℕ, false, [], ◌∷◌, slice_set}
+--     its_start              the ask of its start-split: eight bytes at most, of DATA0
+--     pressed                the same world where the translator of the hub has had that since microframe 0, and a key is down
+use Rattle.std.specs.Prelude.{ℕ, false, [], ◌∷◌, map, slice_set}
+use Rattle.usb_base.specs.declared.packets.Ask.{Ask}
+use Rattle.usb_base.specs.declared.packets.DataPart.TheVariants as parts
+use Rattle.usb_base.specs.declared.packets.EpKind.TheVariants as kinds
 use Rattle.usb_base.specs.declared.packets.Fate.TheVariants.{Lost}
+use Rattle.usb_base.specs.declared.packets.Pid.TheVariants as pids
+use Rattle.usb_base.specs.declared.packets.Speed.TheVariants as speeds
+use Rattle.usb_base.specs.declared.packets.Split.TheVariants as splits
 use Rattle.script_types.specs.declared.scripts.Event.TheVariants as events
+use Rattle.tt_pipeline.specs.declared.entry.Entry.{Entry}
+use Rattle.tt_pipeline.specs.Work.{fresh}
+use Rattle.multi_tt.specs.Translators.{Translator}
+use Rattle.hub_class.specs.HubContent.{HubContent}
 use Rattle.word_mem.specs.Memory.{Mem}
 use Rattle.bus_wire.specs.Bus.{Fixed, fixed_of}
 use Rattle.bus_world.specs.World.{World}
@@ -40,3 +52,27 @@ again_in fixed w k = carried_from repeats_next fixed (waits_in w) 0 k
 
 abbrev pub without_hub : World
 without_hub = record waiting { bus = record waiting.bus { hubs = [] } }
+
+abbrev pub its_start : Ask
+its_start = record {
+  split = splits.Start 9 1 parts.All;
+  pid = pids.In;
+  addr = 4;
+  ep = 1;
+  speed = speeds.Full;
+  kind = kinds.Interrupt;
+  toggle = pids.Data0;
+  limit = 8;
+}
+
+abbrev pub its_entry : Entry
+its_entry = record (fresh its_start [] 0) { before = (fresh its_start [] 0).came }
+
+abbrev pub started : Translator → Translator
+started t = record t { pipeline = its_entry ∷ [] }
+
+abbrev pub with_start : HubContent → HubContent
+with_start h = record h { translators = record h.translators { all = map started h.translators.all } }
+
+abbrev pub pressed : World
+pressed = record waiting { bus = record waiting.bus { hubs = map with_start waiting.bus.hubs } }

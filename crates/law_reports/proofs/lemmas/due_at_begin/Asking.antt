@@ -110,7 +110,7 @@ iso_token ways.Out b one is = ap (λ (c : Bool). token_kind (if c then pids.In e
 iso_token ways.Ctl b one is = absurd (one refl)
 
 -- an endpoint is asked by tokens of its own way alone
-same_way : (a b : Way) → a ≢ ways.Ctl → b ≢ ways.Ctl → takes_token a (token_by b) ≡ true → a ≡ b
+pub same_way : (a b : Way) → a ≢ ways.Ctl → b ≢ ways.Ctl → takes_token a (token_by b) ≡ true → a ≡ b
 same_way ways.In ways.In one other is = refl
 same_way ways.Out ways.Out one other is = refl
 same_way ways.In ways.Out one other is = absurd (false≢true is)

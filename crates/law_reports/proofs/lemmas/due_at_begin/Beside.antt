@@ -45,7 +45,7 @@ asked_seat : (b : Bus) (split : Split) (p : ℕ) (o : Option Seat) (e : Asked)
 asked_seat b split p None e is = absurd cc
 asked_seat b split p (Some seat) e is = asked_packet b split p seat (slice_get b.high p) e is
 
-asked_place : (fixed : Fixed) (b : Bus) (split : Split) (o : Option ℕ) (e : Asked) → option_and_then (asked_at fixed b split) o ≡ Some e
+pub asked_place : (fixed : Fixed) (b : Bus) (split : Split) (o : Option ℕ) (e : Asked) → option_and_then (asked_at fixed b split) o ≡ Some e
     → o ≡ Some e.place
 asked_place fixed b split None e is = absurd cc
 asked_place fixed b split (Some p) e is = ap Some (asked_seat b split p (slice_get fixed.seats p) e is)

@@ -1,5 +1,5 @@
 -- A speaker's siTD and a microphone's as their microframe begins, and once the walk of the frames is over.
-use Rattle.std.proofs.Common.{◌≡◌, Some, false, slice_get, ap, refl, sym, subst, ◌∙◌, arith, inl}
+use Rattle.std.proofs.Common.{◌≡◌, ℕ, ◌+◌, Some, true, false, slice_get, ap, refl, sym, subst, ◌∙◌, arith, inl}
 use Rattle.std.proofs.lemmas.Bool.{false≢true, true≢false}
 use Rattle.std.proofs.lemmas.Option.{same_Some}
 use Rattle.word_mem.specs.Memory.{filled}
@@ -12,6 +12,7 @@ use Rattle.drv_chains.specs.Order.{frames}
 use Rattle.itd_sitd.specs.declared.sitd.Sitd.{Sitd}
 use Rattle.itd_sitd.specs.Sitd.{sitd_words, sitd_bad, sitd_at, sitd_read}
 use Rattle.drv_periodic_table.specs.Descriptors.{slots_before}
+use Rattle.drv_periodic_table.specs.Periodic.{note_at}
 use Rattle.qh_qtd.specs.QueueHead.{qh_words}
 use Rattle.mem_runs.specs.Book.{lend_runs, store_words}
 use Rattle.mem_descriptors.specs.Descriptors.{sitd_at_address}
@@ -38,6 +39,7 @@ use Rattle.claims_world.specs.SlotsAtBegin.{IsDescriptorOfEndpoint}
 use Rattle.claims_world.specs.Visits.{is_there, frame_in, is_held_now}
 use Rattle.law_microframes.specs.due.sitds.Samples.{speaker, microphone, speaker_place, microphone_place, with_sound, sound_at, sounds}
 use Rattle.law_reports.specs.due_at_begin.Samples.{cancelled_speaker}
+use Rattle.law_reports.specs.due_at_begin.Stored.{IsStoredFor}
 
 pub speaker_begins : controller_row (sound_at speaker 400 speaker_place 0) ≡ Begin
 unfolding ticks carried_from lowest_run filled words_in with_words_in store_words lend_runs qh_words all_descriptors with_frames
@@ -137,3 +139,37 @@ unfolding ticks carried_from lowest_run filled words_in with_words_in store_word
     linked_descriptors sitd_words sitd_bad sitd_at sitd_read link_word link_read first_bad_bit slots_before predecessors
     frames word_after before_the behind_the places all_reached stored lacks after_start after_part after_complete sitd_written iso_raised
 cancelled_isnt_kept kept = true≢false (kept _ refl)
+
+pub sitd_is_stored : IsStoredFor true (sound_at speaker 400 speaker_place 1).driver 0 4160
+    (frame_in (sound_at speaker 400 speaker_place 1).control.frame.index)
+unfolding ticks carried_from lowest_run filled words_in with_words_in store_words lend_runs qh_words all_descriptors with_frames
+    linked_descriptors sitd_words sitd_bad sitd_at sitd_read link_word link_read first_bad_bit slots_before predecessors
+    frames word_after before_the behind_the places all_reached stored lacks after_start after_part after_complete sitd_written iso_raised
+sitd_is_stored = record {
+  endpoint = _;
+  here = refl;
+  of = record { number = 0; transfer = _; here = refl; sort = refl; held = refl; at = refl; endpoint = refl };
+  sort = refl;
+  frame = refl;
+  older = λ i first count is. absurd cc;
+  idle = λ v is. absurd cc;
+  untold = refl;
+}
+
+its_frame : (of : IsDescriptorOfEndpoint (sound_at speaker 400 speaker_place 1).driver 0 4160)
+    → (note_at (sound_at speaker 400 speaker_place 1).driver.periodic.notes of.transfer.first).frame
+    ≡ frame_in (sound_at speaker 400 speaker_place 1).control.frame.index
+unfolding ticks carried_from lowest_run filled words_in with_words_in store_words lend_runs qh_words all_descriptors with_frames
+    linked_descriptors sitd_words sitd_bad sitd_at sitd_read link_word link_read first_bad_bit slots_before predecessors
+    frames word_after before_the behind_the places all_reached stored lacks after_start after_part after_complete sitd_written iso_raised
+its_frame of =
+    let at = of.at in
+    let first : of.transfer.first ≡ 130 = omega (arith, at) in
+    ap (λ (b : ℕ). (note_at (sound_at speaker 400 speaker_place 1).driver.periodic.notes b).frame) first
+
+pub sitd_isnt_stored_for_another : IsStoredFor true (sound_at speaker 400 speaker_place 1).driver 0 4160
+    (frame_in (sound_at speaker 400 speaker_place 1).control.frame.index + 1) → ⊥
+sitd_isnt_stored_for_another st =
+    let other = st.frame in
+    let own = its_frame st.of in
+    omega (arith, other, own)

@@ -103,7 +103,7 @@ unfolding ticks lowest_run filled words_in with_words_in store_words lend_runs q
     frames word_after before_the behind_the fetched_itd after_in itd_written places all_reached stored
 cancelled_isnt_kept kept = true≢false (kept _ refl)
 
-pub slot_is_stored : IsStoredFor (due_at 1).driver 0 4160 (frame_in (due_at 1).control.frame.index)
+pub slot_is_stored : IsStoredFor false (due_at 1).driver 0 4160 (frame_in (due_at 1).control.frame.index)
 unfolding ticks lowest_run filled words_in with_words_in store_words lend_runs qh_words all_descriptors with_frames
     linked_descriptors itd_words itd_bad itd_at itd_read slot_word slot_at link_word link_read first_bad_bit slots_before predecessors
     frames word_after before_the behind_the fetched_itd after_in itd_written places all_reached stored
@@ -111,7 +111,7 @@ slot_is_stored = record {
   endpoint = _;
   here = refl;
   of = record { number = 0; transfer = _; here = refl; sort = refl; held = refl; at = refl; endpoint = refl };
-  itd = refl;
+  sort = refl;
   frame = refl;
   older = λ i first count is. absurd cc;
   idle = λ v is. absurd cc;
@@ -122,7 +122,7 @@ none_below : (n : ℕ) → n < 0 → ⊥
 none_below n low = omega (arith, low)
 
 -- the command is to link the descriptors from transfer 0 on
-pub slot_isnt_stored_yet : IsStoredFor (heard_at 2).driver 0 4160 (frame_in (due_at 1).control.frame.index) → ⊥
+pub slot_isnt_stored_yet : IsStoredFor false (heard_at 2).driver 0 4160 (frame_in (due_at 1).control.frame.index) → ⊥
 unfolding ticks lowest_run filled words_in with_words_in store_words lend_runs qh_words all_descriptors with_frames
     linked_descriptors itd_words itd_bad itd_at itd_read slot_word slot_at link_word link_read first_bad_bit slots_before predecessors
     frames word_after before_the behind_the fetched_itd after_in itd_written places all_reached stored

@@ -1,5 +1,5 @@
--- An iTD that is stored for a frame, of an endpoint that isn't cancelled, is linked in that frame; so its slot is due where it is active
--- (EHCI 1.0, 3.1, 4.6 and 4.7.1).
+-- An iTD, or a siTD, that is stored for a frame, of an endpoint that isn't cancelled, is linked in that frame; so its slot is due where it
+-- is active, or its transaction where one comes (EHCI 1.0, 3.1, 4.6, 4.7.1 and 4.12.3).
 use Rattle.std.proofs.Common.{◌≡◌, ◌≢◌, ℕ, ◌*◌, ◌/◌, ◌<◌, Bool, true, false, not, ◌&&◌, ◌==◌, slice_get, Option, Some, None}
 use Rattle.std.proofs.Common.{nat_lt, option_map, inr, ap, refl, sym, ◌∙◌}
 use Rattle.std.proofs.lemmas.Bool.{true≢false, false≢true, lt-ltb, ne_eqb, or_left}
@@ -20,13 +20,16 @@ use Rattle.claims_driver.specs.FrameListMembers.{Placed, framed_of, framed_in, i
 use Rattle.law_driver.specs.listed_members.Members.{is_linked_by, IsListed, IsUnderWay}
 use Rattle.claims_driver.specs.Leaving.{HasOwners}
 use Rattle.hc_interrupt.specs.Turns.{microframe_of}
+use Rattle.hc_iso.specs.declared.held.SitdTurn.TheVariants.{Work}
+use Rattle.hc_iso.specs.Sitd.{sitd_turn}
 use Rattle.itd_sitd.specs.declared.itd.Itd.{Itd}
 use Rattle.itd_sitd.specs.Itd.{slot_of}
-use Rattle.mem_descriptors.specs.Descriptors.{itd_at_address}
+use Rattle.itd_sitd.specs.declared.sitd.Sitd.{Sitd}
+use Rattle.mem_descriptors.specs.Descriptors.{itd_at_address, sitd_at_address}
 use Rattle.bus_world.specs.Budgets.{moment}
 use Rattle.bus_world.specs.World.{World, controller_parts}
 use Rattle.claims_world.specs.DueAtBegin.{IsUncancelled}
-use Rattle.claims_world.specs.Reach.{ItdAt}
+use Rattle.claims_world.specs.SitdsAtBegin.{IsSitdDueAtBegin}
 use Rattle.claims_world.specs.SlotsAtBegin.{IsLinkedAs, IsSlotDueAtBegin}
 use Rattle.claims_world.specs.Visits.{frame_in}
 use Rattle.law_driver.proofs.lemmas.listed_members.Standing.{descriptor_block}
@@ -36,9 +39,10 @@ use Rattle.law_world.specs.memory.Mixed.{Standing, IsMixedWorld}
 use Rattle.law_world.proofs.lemmas.memory.Together.{texts_stay_mixed}
 use Rattle.law_world.proofs.lemmas.memory.lemmas.framed_memory.Now.{now_has_frames}
 use Rattle.law_microframes.proofs.lemmas.due.Linked.{is_led_to}
-use Rattle.law_reports.specs.due_at_begin.Stored.{IsStoredFor, TextsHaveStoredSlotsDue}
+use Rattle.law_reports.specs.due_at_begin.Stored.{IsStoredFor, TextsHaveStoredSlotsDue, TextsHaveStoredSitdsDue}
 use Rattle.law_reports.proofs.lemmas.due_at_begin.DescriptorThere.{IsItsMember, linked_there}
 use Rattle.law_reports.proofs.lemmas.due_at_begin.BegunMoments.{so_as_begun}
+use Rattle.law_reports.proofs.lemmas.due_at_begin.Reached.{structure_at}
 
 iso_periodic : (kind : EpKind) → is_iso kind ≡ true → is_periodic kind ≡ true
 iso_periodic kinds.Iso is = refl
@@ -46,7 +50,7 @@ iso_periodic kinds.Control is = absurd (false≢true is)
 iso_periodic kinds.Bulk is = absurd (false≢true is)
 iso_periodic kinds.Interrupt is = absurd (false≢true is)
 
-module _ (w : World) (k : IsMixedWorld w) (e n : ℕ) (st : IsStoredFor w.driver e n (frame_in w.control.frame.index))
+module _ (split : Bool) (w : World) (k : IsMixedWorld w) (e n : ℕ) (st : IsStoredFor split w.driver e n (frame_in w.control.frame.index))
     (off : IsUncancelled w.driver e) where
   abbrev d : DriverContent
   d = w.driver
@@ -127,30 +131,44 @@ module _ (w : World) (k : IsMixedWorld w) (e n : ℕ) (st : IsStoredFor w.driver
   block : c.id / 32 ≡ st.of.transfer.first
   block = descriptor_block d.periodic y.first
 
-  member : IsItsMember false w n
+  member : IsItsMember split w n
   member = record {
     descriptor = c;
     on = is_led_to w.memory w.driver frames (Once c) linked st.idle;
     at = ap (λ (b : ℕ). 32 * b) block ∙ sym st.of.at;
     frame = st.frame;
-    its_split = ap (λ (b : ℕ). (note_at d.periodic.notes b).split) block ∙ st.itd;
+    its_split = ap (λ (b : ℕ). (note_at d.periodic.notes b).split) block ∙ st.sort;
   }
 
-  pub stored_is_linked : IsLinkedAs ItdAt w n
-  stored_is_linked = linked_there false w k n member e st.of off
+  pub stored_is_linked : IsLinkedAs (structure_at split) w n
+  stored_is_linked = linked_there split w k n member e st.of off
 
 -- ---- as each microframe begins
 
 abbrev HaveStoredDue : World → Type 0
-HaveStoredDue w = (e n : ℕ) (v : Itd) → IsUncancelled w.driver e → IsStoredFor w.driver e n (frame_in w.control.frame.index)
+HaveStoredDue w = (e n : ℕ) (v : Itd) → IsUncancelled w.driver e → IsStoredFor false w.driver e n (frame_in w.control.frame.index)
     → itd_at_address w.memory n ≡ Some v → (slot_of (microframe_of w.control.frame.index) v).active ≡ true → IsSlotDueAtBegin w n
 
 pub texts_have_stored_slots_due : TextsHaveStoredSlotsDue
 texts_have_stored_slots_due text s spelled k e n v =
     so_as_begun HaveStoredDue s (λ i a x off st read active. let none = st.here in absurd cc)
     (λ j i a x off st read active. record {
-      linked = stored_is_linked (moment s j).world (texts_stay_mixed text s spelled j) i a st off;
+      linked = stored_is_linked false (moment s j).world (texts_stay_mixed text s spelled j) i a st off;
       itd = x;
       read = read;
       active = active;
+    }) k e n v
+
+abbrev HaveStoredSitdsDue : World → Type 0
+HaveStoredSitdsDue w = (e n : ℕ) (v : Sitd) → IsUncancelled w.driver e → IsStoredFor true w.driver e n (frame_in w.control.frame.index)
+    → sitd_at_address w.memory n ≡ Some v → sitd_turn (microframe_of w.control.frame.index) v ≡ Work → IsSitdDueAtBegin w n
+
+pub texts_have_stored_sitds_due : TextsHaveStoredSitdsDue
+texts_have_stored_sitds_due text s spelled k e n v =
+    so_as_begun HaveStoredSitdsDue s (λ i a x off st read comes. let none = st.here in absurd cc)
+    (λ j i a x off st read comes. record {
+      linked = stored_is_linked true (moment s j).world (texts_stay_mixed text s spelled j) i a st off;
+      sitd = x;
+      read = read;
+      comes = comes;
     }) k e n v

@@ -1,17 +1,22 @@
 -- At each moment of a script's run what was due of an interrupt endpoint below a hub as the microframe began is in its stage; so it is done
 -- once the walk of the frames is over.
 use Rattle.std.proofs.Common.{◌≡◌, ◌≢◌, ℕ, zero, suc, ◌*◌, ◌≤◌, Bool, true, false, List, [], ◌∷◌, Option, Some, None, ap, refl, sym, subst, ◌∙◌}
-use Rattle.std.proofs.Common.{⊎_elim, arith}
+use Rattle.std.proofs.Common.{slice_get, ⊎_elim, arith}
 use Rattle.std.proofs.lemmas.Bool.{false≢true}
 use Rattle.law_microframes.proofs.Common.{in_list, repeats_less, frame_row}
 use Rattle.usb_base.specs.declared.commands.Cmd.{Cmd}
+use Rattle.usb_base.specs.declared.endpoints.EpDesc.{EpDesc}
+use Rattle.usb_base.specs.declared.packets.EpKind.TheVariants.{Interrupt}
 use Rattle.script_types.specs.declared.scripts.Event.TheVariants as events
 use Rattle.script_types.specs.declared.scripts.Script.{Script}
 use Rattle.script_text.specs.Faults.{Spells}
+use Rattle.script_fits.proofs.Texts.{spelled_fits}
 use Rattle.qh_qtd.specs.declared.queue_head.Qh.{Qh}
 use Rattle.bandwidth.specs.declared.placements.Placement.{Placement}
 use Rattle.bandwidth.specs.Sums.{is_active}
 use Rattle.hc_masks.specs.Masks.{has}
+use Rattle.drv_table.specs.declared.content.Endpoint.{Endpoint}
+use Rattle.drv_table.specs.Words.{is_high}
 use Rattle.hc_interrupt.specs.declared.turns.Turn.TheVariants as turns
 use Rattle.hc_interrupt.specs.Turns.{microframe_of, turn_of}
 use Rattle.periodic_walk.specs.declared.state.Hand.{Hand}
@@ -36,62 +41,102 @@ use Rattle.claims_world.specs.SoFar.{SoFar, nothing_yet, so_far_after, so_far_ne
 use Rattle.claims_world.specs.Visits.{IsPastFrames, began_at, began_by, began, frame_in, is_held_now}
 use Rattle.claims_world.specs.WithinLoad.{repeats_at, repeats_after, repeats_next, repeats}
 use Rattle.law_world.specs.steps.Streaming.{begins_by, transacts_by, wired}
-use Rattle.law_world.specs.memory.Mixed.{IsMixedWorld}
+use Rattle.law_world.specs.memory.Mixed.{Standing, IsMixedWorld}
+use Rattle.law_world.specs.streams.Left.{AreNamed}
 use Rattle.law_world.proofs.lemmas.memory.Carrying.{carried_then}
 use Rattle.law_world.proofs.lemmas.memory.LetGo.{moment_then}
 use Rattle.law_world.proofs.lemmas.steps.StreamTurning.{world_has_row}
+use Rattle.law_microframes.specs.due.repeats.Hearing.{is_control_way, IsHeardOn}
+use Rattle.law_microframes.specs.time.DataQueues.{QueuesSendData}
 use Rattle.law_microframes.specs.visits.Belonging.{HeadsHaveFields}
 use Rattle.law_microframes.proofs.lemmas.due.Aside.{IsAside, goes_still}
 use Rattle.law_microframes.proofs.lemmas.due.Coming.{texts_come_to_each}
+use Rattle.law_microframes.proofs.lemmas.due.lemmas.repeats.AskedHeads.{no_control}
+use Rattle.law_microframes.proofs.lemmas.due.lemmas.repeats.Endpoints.{texts_stand}
+use Rattle.law_microframes.proofs.lemmas.due.lemmas.repeats.RepeatMoments.{texts_are_heard}
+use Rattle.law_microframes.proofs.lemmas.time.DataControlled.{controller_keeps_data}
 use Rattle.law_microframes.proofs.lemmas.time.PaymentTimes.{texts_are_in_time}
 use Rattle.law_microframes.proofs.lemmas.visits.NoneLeftWalking.{index_stays}
 use Rattle.law_microframes.proofs.lemmas.visits.ReasonParts.{command_control, command_bus}
+use Rattle.law_reports.specs.lines.Lined.{Lines}
 use Rattle.law_reports.specs.pipes.Declared.{Sides, sides_of}
+use Rattle.law_reports.specs.pipes.Piped.{Heads, IsPiped}
+use Rattle.law_reports.proofs.lemmas.pipes.lemmas.high_streams.Opened.{moments_are_opened}
+use Rattle.law_reports.proofs.lemmas.quiet.Served.{its_name}
 use Rattle.law_reports.proofs.lemmas.due_at_begin.Ahead.{HasWork}
 use Rattle.law_reports.proofs.lemmas.due_at_begin.Aside.{aside_work}
+use Rattle.law_reports.proofs.lemmas.due_at_begin.Asking.{BusGoes}
 use Rattle.law_reports.proofs.lemmas.due_at_begin.InFrames.{IsStillIn, driver_uncancelled, driver_in_frames, command_uncancelled}
 use Rattle.law_reports.proofs.lemmas.due_at_begin.InFrames.{command_in_frames}
 use Rattle.law_reports.proofs.lemmas.due_at_begin.Moments.{IsKnown, known_at, mixed_then, heads_then_at, owned_at}
 use Rattle.law_reports.proofs.lemmas.due_at_begin.SplitStages.{IsTransactionDue, IsSplitHeld, IsSplitTold, SplitStage, is_ahead}
 use Rattle.law_reports.proofs.lemmas.due_at_begin.SplitStages.{is_held, is_told, is_done, more_made, split_held, split_written, split_ahead}
+use Rattle.law_reports.proofs.lemmas.due_at_begin.SplitHeads.{AreSized}
 use Rattle.law_reports.proofs.lemmas.due_at_begin.SplitTurns.{take_turn}
 use Rattle.law_reports.proofs.lemmas.due_at_begin.Stages.{past_frames, begins_walk}
 
 -- ---- due of an endpoint as a microframe begins
 
-pub record IsDueOf (fixed : Fixed) (b : World) (e q : ℕ) (P : QueueMade → Type 0) : Type 0 where
+pub record IsDueOf (fixed : Fixed) (b : World) (e q : ℕ) (x : EpDesc) (B : Bus → Type 0) (P : QueueMade → Type 0) : Type 0 where
   pub placement : Placement
   pub there : IsInItsFrames b.driver e q placement
+  pub desc : there.endpoint.desc ≡ x
+  pub low : is_high x.speed ≡ false
   pub active : is_active placement (frame_in b.control.frame.index) ≡ true
   pub free : is_held_now fixed b ≡ false
   pub queue : Qh
   pub overlay : Bool
   pub work : HasWork b.memory (32 * q) queue overlay
   pub bit : overlay ≡ false → has placement.smask (microframe_of b.control.frame.index) ≡ true
-  pub due : IsTransactionDue b.control.frame.index (32 * q) queue P
+  pub due : IsTransactionDue fixed x B b.control.frame.index (32 * q) queue P
+  pub bus : B b.bus
 
 -- ---- what is carried: of what was due as the microframe of the world b began, in the world w of the same microframe
 
-pub record IsSplitWaiting (fixed : Fixed) (b w : World) (t : SoFar) (ms : List QueueMade) (e q : ℕ) (P : QueueMade → Type 0) : Type 0 where
+pub record IsSplitWaiting (fixed : Fixed) (b w : World) (t : SoFar) (ms : List QueueMade) (e q : ℕ) (x : EpDesc) (B : Bus → Type 0)
+    (P : QueueMade → Type 0) : Type 0 where
   pub placement : Placement
   pub was : IsInItsFrames b.driver e q placement
   pub active : is_active placement (frame_in b.control.frame.index) ≡ true
   pub frames : IsInItsFrames w.driver e q placement
+  pub desc : frames.endpoint.desc ≡ x
+  pub low : is_high x.speed ≡ false
   pub index : w.control.frame.index ≡ b.control.frame.index
   pub queue : Qh
-  pub due : IsTransactionDue b.control.frame.index (32 * q) queue P
-  pub stage : SplitStage fixed w t ms q b.control.frame.index placement queue P
+  pub due : IsTransactionDue fixed x B b.control.frame.index (32 * q) queue P
+  pub stage : SplitStage fixed x B w t ms q b.control.frame.index placement queue P
+
+-- what is known of the endpoints of a moment beside `IsKnown`
+pub record AreKnown (fixed : Fixed) (w : World) : Type 0 where
+  pub named : AreNamed w.driver
+  pub sized : AreSized w.driver
+  pub hears : (e : ℕ) (y : Endpoint) → slice_get w.driver.endpoints e ≡ Some y → is_high y.desc.speed ≡ false
+      → is_control_way y.desc.name.way ≡ false → IsHeardOn fixed w.bus y.desc
 
 -- .. of all that is due so
-module _ (D : World → ℕ → ℕ → Type 0) (P : (b : World) (e q : ℕ) → D b e q → QueueMade → Type 0) where
+module _ (D : World → ℕ → ℕ → Type 0) (X : (b : World) (e q : ℕ) → D b e q → EpDesc)
+    (B : (b : World) (e q : ℕ) → D b e q → Bus → Type 0) (P : (b : World) (e q : ℕ) → D b e q → QueueMade → Type 0) where
   abbrev pub AreSplitsWaiting : Fixed → World → World → SoFar → List QueueMade → ℕ → Type 0
   AreSplitsWaiting fixed b w t ms again =
       again ≤ 4000000 → (e q : ℕ) (d : D (controller_next fixed b) e q) → IsUncancelled w.driver e
-      → IsSplitWaiting fixed (controller_next fixed b) w t ms e q (P (controller_next fixed b) e q d)
+      → IsSplitWaiting fixed (controller_next fixed b) w t ms e q (X (controller_next fixed b) e q d) (B (controller_next fixed b) e q d)
+      (P (controller_next fixed b) e q d)
 
-  module _ (fixed : Fixed)
-      (comes : (b : World) → IsMixedWorld b → HeadsHaveFields b.driver b.memory → (e q : ℕ) (d : D b e q) → IsDueOf fixed b e q (P b e q d))
-      (x : Sides) (b w : World) (t : SoFar) (ms : List QueueMade) (again : ℕ) (k : IsKnown fixed x b w t)
+  -- what is due comes so
+  abbrev pub Comes : Fixed → Type 0
+  Comes fixed =
+      (b : World) → IsMixedWorld b → HeadsHaveFields b.driver b.memory → QueuesSendData b.driver b.memory → (e q : ℕ) (d : D b e q)
+      → IsDueOf fixed b e q (X b e q d) (B b e q d) (P b e q d)
+
+  -- an event of the walk of the frames at another structure leaves what has to hold of the bus
+  abbrev pub StaysBeside : Fixed → Type 0
+  StaysBeside fixed =
+      (x : Sides) (s : Standing) (m : Lines) (h : Heads) (w : World) → IsPiped fixed x s m h w → AreNamed w.driver → (b : World) (e q : ℕ)
+      (d : D b e q) (y : Endpoint) → slice_get w.driver.endpoints e ≡ Some y → y.desc.kind ≡ Interrupt → y.desc ≡ X b e q d → (c : Bus)
+      → BusGoes fixed w e c → B b e q d w.bus → B b e q d c
+
+  module _ (fixed : Fixed) (comes : Comes fixed) (stays : StaysBeside fixed)
+      (x : Sides) (b w : World) (t : SoFar) (ms : List QueueMade) (again : ℕ) (k : IsKnown fixed x b w t) (are : AreKnown fixed w)
       (timely : IsInTime fixed again w) (all : AreSplitsWaiting fixed b w t ms again) where
     abbrev new : World
     new = controller_next fixed w
@@ -108,22 +153,34 @@ module _ (D : World → ℕ → ℕ → Type 0) (P : (b : World) (e q : ℕ) →
       abbrev moves : List QueueMade
       moves = made_at w.control.frame.hand w.control.frame.reply (kind_next w) ms
 
-      abbrev After : ℕ → ℕ → Placement → Qh → (QueueMade → Type 0) → Type 0
-      After q f p v R = SplitStage fixed (controller_next fixed w) (so_far_after rows.Frame w t) moves q f p v R
+      module _ (y : EpDesc) (low : is_high y.speed ≡ false) (C : Bus → Type 0) where
+        abbrev After : ℕ → ℕ → Placement → Qh → (QueueMade → Type 0) → Type 0
+        After q f p v R = SplitStage fixed y C (controller_next fixed w) (so_far_after rows.Frame w t) moves q f p v R
 
-      frame_stage : again ≤ 4000000 → (e q f : ℕ) (p : Placement) (v : Qh) (R : QueueMade → Type 0) → IsInItsFrames w.driver e q p
-          → IsTransactionDue f (32 * q) v R → SplitStage fixed w t ms q f p v R → After q f p v R
-      frame_stage few e q f p v R i d (is_ahead a) =
-          let g = k.followed in
-          let tells = k.tells (λ is. let never : rows.Frame ≡ rows.Begin = sym row ∙ is in cc never) in
-          split_ahead fixed x g.standing g.lines g.heads w g.followed.piped k.heads k.sends row tells e q p i f v R t moves a
-      frame_stage few e q f p v R i d (is_held s) =
-          ⊎_elim {C = After q f p v R} (λ (u : IsSplitHeld fixed (controller_next fixed w) (32 * q) f v). is_held u)
-          (λ (u : IsSplitTold (controller_next fixed w) R). is_told u)
-          (split_held fixed w k.mixed q f v R d s again few timely)
-      frame_stage few e q f p v R i d (is_told s) = is_done (split_written fixed w k.mixed q f v R d row ms s)
-      frame_stage few e q f p v R i d (is_done u) =
-          is_done (more_made R w.control.frame.hand w.control.frame.reply (kind_next w) ms u)
+        -- it stands on the bus
+        heard_now : (e q : ℕ) (p : Placement) (i : IsInItsFrames w.driver e q p) → i.endpoint.desc ≡ y → IsHeardOn fixed w.bus y
+        heard_now e q p i its =
+            subst (IsHeardOn fixed w.bus) its
+            (are.hears e i.endpoint i.here (ap (λ (d : EpDesc). is_high d.speed) its ∙ low)
+            (no_control i.endpoint.desc (k.mixed.mixed.turns.kinds_fit e i.endpoint i.here) i.kind))
+
+        frame_stage : again ≤ 4000000 → (e q f : ℕ) (p : Placement) (v : Qh) (R : QueueMade → Type 0) (i : IsInItsFrames w.driver e q p)
+            → i.endpoint.desc ≡ y
+            → ((s : Standing) (m : Lines) (h : Heads) → IsPiped fixed x s m h w → (c : Bus) → BusGoes fixed w e c → C w.bus → C c)
+            → IsTransactionDue fixed y C f (32 * q) v R → SplitStage fixed y C w t ms q f p v R → After q f p v R
+        frame_stage few e q f p v R i its beside d (is_ahead a) =
+            let g = k.followed in
+            let tells = k.tells (λ is. let never : rows.Frame ≡ rows.Begin = sym row ∙ is in cc never) in
+            split_ahead fixed x g.standing g.lines g.heads w g.followed.piped k.heads k.sends row tells e q p i
+            (ap (λ (d : EpDesc). is_high d.speed) its ∙ low) (are.sized e i.endpoint i.here) y its C
+            (beside g.standing g.lines g.heads g.followed.piped) f v R t moves a
+        frame_stage few e q f p v R i its beside d (is_held s) =
+            ⊎_elim {C = After q f p v R} (λ (u : IsSplitHeld fixed y C (controller_next fixed w) (32 * q) f v). is_held u)
+            (λ (u : IsSplitTold (controller_next fixed w) R). is_told u)
+            (split_held fixed y C w k.mixed q f v R d s (heard_now e q p i its) again few timely)
+        frame_stage few e q f p v R i its beside d (is_told s) = is_done (split_written fixed y C w k.mixed q f v R d row ms s)
+        frame_stage few e q f p v R i its beside d (is_done u) =
+            is_done (more_made R w.control.frame.hand w.control.frame.reply (kind_next w) ms u)
 
       frame_goes : AreSplitsWaiting fixed b (controller_next fixed w) (so_far_after rows.Frame w t) moves
           (repeats_at w.control.frame.hand (kind_next w) again)
@@ -136,11 +193,17 @@ module _ (D : World → ℕ → ℕ → Type 0) (P : (b : World) (e q : ℕ) →
             was = old.was;
             active = old.active;
             frames = old.frames;
+            desc = old.desc;
+            low = old.low;
             index = index_on (λ is. let never : rows.Frame ≡ rows.Begin = sym row ∙ is in cc never) ∙ old.index;
             queue = old.queue;
             due = old.due;
-            stage = frame_stage little e q (controller_next fixed b).control.frame.index old.placement old.queue
-                (P (controller_next fixed b) e q d) old.frames old.due old.stage;
+            stage = frame_stage (X (controller_next fixed b) e q d) old.low (B (controller_next fixed b) e q d) little e q
+                (controller_next fixed b).control.frame.index old.placement old.queue (P (controller_next fixed b) e q d) old.frames
+                old.desc
+                (λ s m h piped c goes had. stays x s m h w piped are.named (controller_next fixed b) e q d old.frames.endpoint
+                old.frames.here old.frames.kind old.desc c goes had)
+                old.due old.stage;
           }
 
     -- ---- once the walk of the frames is over it came to each
@@ -154,6 +217,8 @@ module _ (D : World → ℕ → ℕ → Type 0) (P : (b : World) (e q : ℕ) →
           was = old.was;
           active = old.active;
           frames = old.frames;
+          desc = old.desc;
+          low = old.low;
           index = index_on off_begin ∙ old.index;
           queue = old.queue;
           due = old.due;
@@ -163,9 +228,10 @@ module _ (D : World → ℕ → ℕ → Type 0) (P : (b : World) (e q : ℕ) →
         over : (p : Placement) (v : Qh) → IsInItsFrames (controller_next fixed b).driver e q p
             → is_active p (frame_in (controller_next fixed b).control.frame.index) ≡ true → IsInItsFrames w.driver e q p
             → w.control.frame.index ≡ (controller_next fixed b).control.frame.index
-            → SplitStage fixed w t ms q (controller_next fixed b).control.frame.index p v (P (controller_next fixed b) e q d)
-            → SplitStage fixed (controller_next fixed w) t ms q (controller_next fixed b).control.frame.index p v
-            (P (controller_next fixed b) e q d)
+            → SplitStage fixed (X (controller_next fixed b) e q d) (B (controller_next fixed b) e q d) w t ms q
+            (controller_next fixed b).control.frame.index p v (P (controller_next fixed b) e q d)
+            → SplitStage fixed (X (controller_next fixed b) e q d) (B (controller_next fixed b) e q d) (controller_next fixed w) t ms q
+            (controller_next fixed b).control.frame.index p v (P (controller_next fixed b) e q d)
         over p v was active frames index (is_ahead a) =
             let c = k.comes e q p (past_frames w k.mixed off_frames) was frames
             (ap (λ (i : ℕ). is_active p (frame_in i)) index ∙ active) in
@@ -180,14 +246,17 @@ module _ (D : World → ℕ → ℕ → Type 0) (P : (b : World) (e q : ℕ) →
         → HeadsHaveFields (controller_next fixed w).driver (controller_next fixed w).memory → (again_then : ℕ)
         → AreSplitsWaiting fixed w (controller_next fixed w) nothing_yet [] again_then
     begin_goes row l heads_then again_then few e q d off =
-        let n : IsDueOf fixed (controller_next fixed w) e q (P (controller_next fixed w) e q d) =
-        comes (controller_next fixed w) l heads_then e q d in
+        let n : IsDueOf fixed (controller_next fixed w) e q (X (controller_next fixed w) e q d) (B (controller_next fixed w) e q d)
+        (P (controller_next fixed w) e q d) =
+        comes (controller_next fixed w) l heads_then (controller_keeps_data fixed w k.mixed k.sends) e q d in
         let g = begins_walk fixed w row l in
         record {
           placement = n.placement;
           was = n.there;
           active = n.active;
           frames = n.there;
+          desc = n.desc;
+          low = n.low;
           index = refl;
           queue = n.queue;
           due = n.due;
@@ -200,6 +269,7 @@ module _ (D : World → ℕ → ℕ → Type 0) (P : (b : World) (e q : ℕ) →
             overlay = n.overlay;
             work = n.work;
             bit = n.bit;
+            bus = n.bus;
           });
         }
       where
@@ -233,10 +303,10 @@ module _ (D : World → ℕ → ℕ → Type 0) (P : (b : World) (e q : ℕ) →
         (back : (e : ℕ) → IsUncancelled later.driver e → IsUncancelled w.driver e)
         (still : (e q : ℕ) (p : Placement) (i : IsInItsFrames w.driver e q p) → IsUncancelled later.driver e
         → IsStillIn later e q p i.endpoint.desc) where
-      aside_stage : (e q f : ℕ) (p : Placement) (v : Qh) (R : QueueMade → Type 0) (i : IsInItsFrames w.driver e q p)
-          (j : IsInItsFrames later.driver e q p) → j.endpoint.desc ≡ i.endpoint.desc → is_active p (frame_in f) ≡ true
-          → SplitStage fixed w t ms q f p v R → SplitStage fixed later t ms q f p v R
-      aside_stage e q f p v R i j same active (is_ahead a) = is_ahead (record {
+      aside_stage : (y : EpDesc) (C : Bus → Type 0) (e q f : ℕ) (p : Placement) (v : Qh) (R : QueueMade → Type 0)
+          (i : IsInItsFrames w.driver e q p) (j : IsInItsFrames later.driver e q p) → j.endpoint.desc ≡ i.endpoint.desc
+          → is_active p (frame_in f) ≡ true → SplitStage fixed y C w t ms q f p v R → SplitStage fixed y C later t ms q f p v R
+      aside_stage y C e q f p v R i j same active (is_ahead a) = is_ahead (record {
         periodic = ap (λ (c : Control). c.part) aside.control ∙ a.periodic;
         index = ap (λ (c : Control). c.frame.index) aside.control ∙ a.index;
         free = ap (λ (z : Bus). may_not_be_used fixed.holds z.microframe) aside.bus ∙ a.free;
@@ -246,8 +316,9 @@ module _ (D : World → ℕ → ℕ → Type 0) (P : (b : World) (e q : ℕ) →
         work = aside_work fixed w later k.mixed l aside k.heads heads_then e q p i j same (frame_in f) (in_list f) active v a.overlay
             a.work;
         bit = a.bit;
+        bus = subst C (sym aside.bus) a.bus;
       })
-      aside_stage e q f p v R i j same active (is_held s) = is_held (record {
+      aside_stage y C e q f p v R i j same active (is_held s) = is_held (record {
         periodic = ap (λ (c : Control). c.part) aside.control ∙ s.periodic;
         index = ap (λ (c : Control). c.frame.index) aside.control ∙ s.index;
         held = s.held;
@@ -261,8 +332,10 @@ module _ (D : World → ℕ → ℕ → Type 0) (P : (b : World) (e q : ℕ) →
             ∙ take_turn f s.held.copy.queue_head idle unhalted (s.bit idle) ∙ ap turns.Take leads) s.works s.goes;
         due = s.due;
         bit = s.bit;
+        head = s.head;
+        bus = subst C (sym aside.bus) s.bus;
       })
-      aside_stage e q f p v R i j same active (is_told s) = is_told (record {
+      aside_stage y C e q f p v R i j same active (is_told s) = is_told (record {
         periodic = ap (λ (c : Control). c.part) aside.control ∙ s.periodic;
         held = s.held;
         hand = ap (λ (c : Control). c.frame.hand) aside.control ∙ s.hand;
@@ -274,7 +347,7 @@ module _ (D : World → ℕ → ℕ → Type 0) (P : (b : World) (e q : ℕ) →
             ap (λ (c : Control). made_as s.held.copy.settled s.held.copy.at s.held.copy.queue_head c.frame.reply ns) aside.control
             ∙ s.is ns;
       })
-      aside_stage e q f p v R i j same active (is_done u) = is_done u
+      aside_stage y C e q f p v R i j same active (is_done u) = is_done u
 
       aside_goes : AreSplitsWaiting fixed b later t ms again
       aside_goes few e q d off =
@@ -285,10 +358,13 @@ module _ (D : World → ℕ → ℕ → Type 0) (P : (b : World) (e q : ℕ) →
             was = old.was;
             active = old.active;
             frames = s.frames;
+            desc = s.same ∙ old.desc;
+            low = old.low;
             index = ap (λ (c : Control). c.frame.index) aside.control ∙ old.index;
             queue = old.queue;
             due = old.due;
-            stage = aside_stage e q (controller_next fixed b).control.frame.index old.placement old.queue
+            stage = aside_stage (X (controller_next fixed b) e q d) (B (controller_next fixed b) e q d) e q
+                (controller_next fixed b).control.frame.index old.placement old.queue
                 (P (controller_next fixed b) e q d) old.frames s.frames s.same old.active old.stage;
           }
 
@@ -328,12 +404,19 @@ module _ (D : World → ℕ → ℕ → Type 0) (P : (b : World) (e q : ℕ) →
 -- ---- a run
 
 module _ (text : List ℕ) (s : Script) (spelled : Spells text s) (D : World → ℕ → ℕ → Type 0)
-    (P : (b : World) (e q : ℕ) → D b e q → QueueMade → Type 0)
-    (comes : (b : World) → IsMixedWorld b → HeadsHaveFields b.driver b.memory → (e q : ℕ) (d : D b e q)
-    → IsDueOf (fixed_of s) b e q (P b e q d))
-    (none : (e q : ℕ) → D (controller_next (fixed_of s) (opening_world s)) e q → ⊥) where
+    (X : (b : World) (e q : ℕ) → D b e q → EpDesc) (B : (b : World) (e q : ℕ) → D b e q → Bus → Type 0)
+    (P : (b : World) (e q : ℕ) → D b e q → QueueMade → Type 0) (comes : Comes D X B P (fixed_of s))
+    (stays : StaysBeside D X B P (fixed_of s)) (none : (e q : ℕ) → D (controller_next (fixed_of s) (opening_world s)) e q → ⊥) where
   abbrev AreAt : World → World → SoFar → List QueueMade → ℕ → Type 0
-  AreAt b w t ms again = AreSplitsWaiting D P (fixed_of s) b w t ms again
+  AreAt b w t ms again = AreSplitsWaiting D X B P (fixed_of s) b w t ms again
+
+  are_known : (k : ℕ) → AreKnown (fixed_of s) (moment s k).world
+  are_known k = record {
+    named = λ e y here.
+        (its_name text s spelled y.desc (moments_are_opened s (spelled_fits text s spelled) k e y here)).name;
+    sized = λ e y here. let u = texts_stand text s spelled k e y here in record { max = u.max; port = u.port };
+    hears = λ e y here low carries. texts_are_heard text s spelled k e y here low carries;
+  }
 
   timely_at : (k : ℕ) → IsInTime (fixed_of s) (repeats s k) (moment s k).world
   timely_at k = (texts_are_in_time text s spelled).each k
@@ -341,7 +424,7 @@ module _ (text : List ℕ) (s : Script) (spelled : Spells text s) (D : World →
   abbrev then_world : ℕ → World
   then_world k = (tick_at (fixed_of s) (moment s k).world (moment s k).orders).world
 
-  waits_at : (k : ℕ) → AreSplitsWaiting D P (fixed_of s) (began s k) (moment s k).world (so_far s k) (queues_made s k) (repeats s k)
+  waits_at : (k : ℕ) → AreSplitsWaiting D X B P (fixed_of s) (began s k) (moment s k).world (so_far s k) (queues_made s k) (repeats s k)
   unfolding ticks carried_from
   waits_at zero = λ few e q d off. absurd (none e q d)
   waits_at (suc k) =
@@ -361,8 +444,8 @@ module _ (text : List ℕ) (s : Script) (spelled : Spells text s) (D : World →
       (carried_in made_next (fixed_of s) (moment s k).world (moment s k).orders (queues_made s k))
       (carried_in repeats_next (fixed_of s) (moment s k).world (moment s k).orders (repeats s k)))
       (sym (carried_then began_by s (opening_world s) k))
-      (splits_wait_then D P (fixed_of s) comes (sides_of s) (began s k) (moment s k).world (so_far s k) (queues_made s k) (repeats s k)
-      (known_at text s spelled k) (timely_at k) (waits_at k) (moment s k).orders (mixed_then text s spelled k)
+      (splits_wait_then D X B P (fixed_of s) comes stays (sides_of s) (began s k) (moment s k).world (so_far s k) (queues_made s k)
+      (repeats s k) (known_at text s spelled k) (are_known k) (timely_at k) (waits_at k) (moment s k).orders (mixed_then text s spelled k)
       (heads_then_at text s spelled k) (owned_at text s spelled k))))))
 
   -- where the walk is over nothing is in hand
@@ -376,8 +459,8 @@ module _ (text : List ℕ) (s : Script) (spelled : Spells text s) (D : World →
       by : (p : Placement) (v : Qh) → IsInItsFrames (begun s k).driver e q p
           → is_active p (frame_in (begun s k).control.frame.index) ≡ true → IsInItsFrames (moment s k).world.driver e q p
           → (moment s k).world.control.frame.index ≡ (begun s k).control.frame.index
-          → SplitStage (fixed_of s) (moment s k).world (so_far s k) (queues_made s k) q (begun s k).control.frame.index p v
-          (P (begun s k) e q d) → HasMade (P (begun s k) e q d) (queues_made s k)
+          → SplitStage (fixed_of s) (X (begun s k) e q d) (B (begun s k) e q d) (moment s k).world (so_far s k) (queues_made s k) q
+          (begun s k).control.frame.index p v (P (begun s k) e q d) → HasMade (P (begun s k) e q d) (queues_made s k)
       by p v was active frames index (is_ahead a) =
           let c = texts_come_to_each text s spelled k e q p past was frames
           (ap (λ (j : ℕ). is_active p (frame_in j)) index ∙ active) in

@@ -6,6 +6,7 @@ use Rattle.std.specs.Prelude.{nat_lt}
 use Rattle.std.proofs.lemmas.Bool.{cases_eq, false≢true}
 use Rattle.std.proofs.lemmas.Option.{same_Some}
 use Rattle.law_microframes.proofs.Common.{frame_row}
+use Rattle.usb_base.specs.declared.endpoints.EpDesc.{EpDesc}
 use Rattle.usb_base.specs.declared.packets.Reply.{Reply}
 use Rattle.word_mem.specs.Memory.{Mem, word_at}
 use Rattle.link_words.specs.declared.kinds.QtdLink.TheVariants as qtd_links
@@ -17,8 +18,9 @@ use Rattle.qh_qtd.specs.Token.{token_at}
 use Rattle.toggle_error.specs.declared.host.Outcome.{Outcome}
 use Rattle.bandwidth.specs.declared.placements.Placement.{Placement}
 use Rattle.mem_queues.specs.Structures.{queue_head_at_address}
+use Rattle.drv_table.specs.Words.{is_high}
 use Rattle.hc_copy.specs.Overlay.{advanced, taken_token}
-use Rattle.hc_copy.specs.Transacting.{outcome_in}
+use Rattle.hc_copy.specs.Transacting.{call_in, outcome_in}
 use Rattle.hc_copy.specs.Visits.{next_pointer}
 use Rattle.hc_masks.specs.Masks.{has}
 use Rattle.hc_interrupt.specs.declared.turns.Turn.TheVariants as turns
@@ -46,6 +48,7 @@ use Rattle.claims_world.specs.SoFar.{SoFar, so_far_after, HasFound}
 use Rattle.claims_world.specs.Visits.{is_held_now, fetched_by}
 use Rattle.law_world.specs.memory.Mixed.{Standing, IsMixedWorld}
 use Rattle.law_microframes.specs.time.DataQueues.{QueuesSendData}
+use Rattle.law_microframes.specs.due.repeats.Hearing.{IsHeardOn}
 use Rattle.law_microframes.specs.visits.Belonging.{HaveFields, HeadsHaveFields}
 use Rattle.law_microframes.proofs.lemmas.due.Fetched.{HasFetched, has_fetched, comes_goes}
 use Rattle.law_microframes.proofs.lemmas.due.FetchedKinds.{fetched_queue}
@@ -53,28 +56,36 @@ use Rattle.law_microframes.proofs.lemmas.due.Fields.{its_token}
 use Rattle.law_microframes.proofs.lemmas.due.Held.{GoesTo, to_itself, to_qtd, advanced_token}
 use Rattle.law_microframes.proofs.lemmas.due.Turning.{in_periodic, no_fault, walked_to, kind_is}
 use Rattle.law_microframes.proofs.lemmas.due.Visiting.{call_made, bytes_read, transacts, asks, is_there, advances, is_taken, writes}
+use Rattle.law_microframes.proofs.lemmas.due.lemmas.repeats.AskedHeads.{places_read}
 use Rattle.law_microframes.proofs.lemmas.visits.BelongReads.{read_fields}
 use Rattle.law_reports.specs.lines.Lined.{Lines}
 use Rattle.law_reports.specs.pipes.Declared.{Sides}
 use Rattle.law_reports.specs.pipes.Piped.{Heads, IsPiped}
 use Rattle.law_reports.proofs.lemmas.due_at_begin.Ahead.{HasWork}
 use Rattle.law_reports.proofs.lemmas.due_at_begin.Aside.{its_words}
+use Rattle.law_reports.proofs.lemmas.due_at_begin.Asking.{BusGoes, bus_goes}
+use Rattle.law_reports.proofs.lemmas.due_at_begin.SplitHeads.{IsHeadOf, IsSized, advanced_of, its_fields}
 use Rattle.law_reports.proofs.lemmas.due_at_begin.SplitTurns.{IsAsDue, same_turn, take_turn, left_as, made_as_due}
 use Rattle.law_reports.proofs.lemmas.due_at_begin.Stages.{unfound_next}
 use Rattle.law_reports.proofs.lemmas.due_at_begin.Walked.{walked_work, part_stays, index_same, apart_then}
 
 -- ---- what is due
 
--- a transaction of a queue head like this one comes in the microframe of FRINDEX f, and what it leaves is so
-pub record IsTransactionDue (f n : ℕ) (v : Qh) (P : QueueMade → Type 0) : Type 0 where
+-- what the host hears in the transaction of a queue head
+abbrev pub reply_to : Fixed → Bus → Qh → List ℕ → Bool → Reply
+reply_to fixed b q out last = reply_of fixed b (call_in (planned q) out last).ask (call_in (planned q) out last).out
+
+-- a transaction of a queue head like this one, of the endpoint so described, comes in the microframe of FRINDEX f, and what it leaves is so
+-- where B holds of the bus
+pub record IsTransactionDue (fixed : Fixed) (x : EpDesc) (B : Bus → Type 0) (f n : ℕ) (v : Qh) (P : QueueMade → Type 0) : Type 0 where
   pub work : IsActiveToken v.token
   pub turn : turn_of f v ≡ turns.Work
-  pub leaves : (q : Qh) → IsAsDue v q → (out : List ℕ) (last : Bool) (reply : Reply) → last ≡ is_last_of f q
-      → P (made_as_due f n q out last reply)
+  pub leaves : (q : Qh) → IsAsDue v q → IsHeadOf x q → (b : Bus) → IsHeardOn fixed b x → B b → (out : List ℕ) (last : Bool)
+      → last ≡ is_last_of f q → P (made_as_due f n q out last (reply_to fixed b q out last))
 
 -- ---- the stages
 
-pub record IsSplitAhead (fixed : Fixed) (w : World) (t : SoFar) (q f : ℕ) (p : Placement) (v : Qh) : Type 0 where
+pub record IsSplitAhead (fixed : Fixed) (B : Bus → Type 0) (w : World) (t : SoFar) (q f : ℕ) (p : Placement) (v : Qh) : Type 0 where
   pub periodic : w.control.part ≡ Periodic
   pub index : w.control.frame.index ≡ f
   pub free : is_held_now fixed w ≡ false
@@ -83,8 +94,9 @@ pub record IsSplitAhead (fixed : Fixed) (w : World) (t : SoFar) (q f : ℕ) (p :
   pub overlay : Bool
   pub work : HasWork w.memory (32 * q) v overlay
   pub bit : overlay ≡ false → has p.smask (microframe_of f) ≡ true
+  pub bus : B w.bus
 
-pub record IsSplitHeld (fixed : Fixed) (w : World) (n f : ℕ) (v : Qh) : Type 0 where
+pub record IsSplitHeld (fixed : Fixed) (x : EpDesc) (B : Bus → Type 0) (w : World) (n f : ℕ) (v : Qh) : Type 0 where
   pub periodic : w.control.part ≡ Periodic
   pub index : w.control.frame.index ≡ f
   pub held : HeldQueue
@@ -96,6 +108,8 @@ pub record IsSplitHeld (fixed : Fixed) (w : World) (n f : ℕ) (v : Qh) : Type 0
   pub goes : GoesTo w.memory held.copy.queue_head works
   pub due : IsAsDue v works
   pub bit : held.copy.queue_head.token.active ≡ false → has held.copy.queue_head.smask (microframe_of f) ≡ true
+  pub head : IsHeadOf x held.copy.queue_head
+  pub bus : B w.bus
 
 pub record IsSplitTold (w : World) (P : QueueMade → Type 0) : Type 0 where
   pub periodic : w.control.part ≡ Periodic
@@ -108,12 +122,12 @@ pub record IsSplitTold (w : World) (P : QueueMade → Type 0) : Type 0 where
   pub is : (ms : List QueueMade)
       → made_as held.copy.settled held.copy.at held.copy.queue_head w.control.frame.reply ms ≡ made ∷ ms
 
-pub data SplitStage (fixed : Fixed) (w : World) (t : SoFar) (ms : List QueueMade) (q f : ℕ) (p : Placement) (v : Qh)
-    (P : QueueMade → Type 0) : Type 0 where
-  is_ahead : IsSplitAhead fixed w t q f p v → SplitStage fixed w t ms q f p v P
-  is_held : IsSplitHeld fixed w (32 * q) f v → SplitStage fixed w t ms q f p v P
-  is_told : IsSplitTold w P → SplitStage fixed w t ms q f p v P
-  is_done : HasMade P ms → SplitStage fixed w t ms q f p v P
+pub data SplitStage (fixed : Fixed) (x : EpDesc) (B : Bus → Type 0) (w : World) (t : SoFar) (ms : List QueueMade) (q f : ℕ)
+    (p : Placement) (v : Qh) (P : QueueMade → Type 0) : Type 0 where
+  is_ahead : IsSplitAhead fixed B w t q f p v → SplitStage fixed x B w t ms q f p v P
+  is_held : IsSplitHeld fixed x B w (32 * q) f v → SplitStage fixed x B w t ms q f p v P
+  is_told : IsSplitTold w P → SplitStage fixed x B w t ms q f p v P
+  is_done : HasMade P ms → SplitStage fixed x B w t ms q f p v P
 
 -- ---- what was made stays made
 
@@ -144,9 +158,10 @@ advanced_due v q a old new token k = record {
 abbrev one_made : ℕ → Qh → Outcome → List QueueMade → Reply → List QueueMade
 one_made a z outcome ms r = record { at = a; queue = z; heard = r; outcome = outcome } ∷ ms
 
-module _ (fixed : Fixed) (w : World) (k : IsMixedWorld w) (q f : ℕ) (v : Qh) (P : QueueMade → Type 0)
-    (d : IsTransactionDue f (32 * q) v P) where
-  module _ (s : IsSplitHeld fixed w (32 * q) f v) (again : ℕ) (few : again ≤ 4000000) (timely : IsInTime fixed again w) where
+module _ (fixed : Fixed) (y : EpDesc) (B : Bus → Type 0) (w : World) (k : IsMixedWorld w) (q f : ℕ) (v : Qh) (P : QueueMade → Type 0)
+    (d : IsTransactionDue fixed y B f (32 * q) v P) where
+  module _ (s : IsSplitHeld fixed y B w (32 * q) f v) (hears : IsHeardOn fixed w.bus y) (again : ℕ) (few : again ≤ 4000000)
+      (timely : IsInTime fixed again w) where
     abbrev place : FramePlace
     place = frame_place (controller_parts w)
 
@@ -154,7 +169,7 @@ module _ (fixed : Fixed) (w : World) (k : IsMixedWorld w) (q f : ℕ) (v : Qh) (
     x = s.held.copy.queue_head
 
     abbrev Then : Type 0
-    Then = IsSplitHeld fixed (controller_next fixed w) (32 * q) f v ⊎ IsSplitTold (controller_next fixed w) P
+    Then = IsSplitHeld fixed y B (controller_next fixed w) (32 * q) f v ⊎ IsSplitTold (controller_next fixed w) P
 
     row : controller_row w ≡ rows.Frame
     row = frame_row w (hands.Queue s.held) k s.periodic s.hand
@@ -189,7 +204,7 @@ module _ (fixed : Fixed) (w : World) (k : IsMixedWorld w) (q f : ℕ) (v : Qh) (
           outcome = outcome_in (planned x) sent last reply;
           settled = refl;
           made = made_as_due f (32 * q) x sent last reply;
-          so = d.leaves x due sent last reply (ap (λ (i : ℕ). is_last_of i x) s.index);
+          so = d.leaves x due s.head w.bus hears s.bus sent last (ap (λ (i : ℕ). is_last_of i x) s.index);
           is = λ ns.
               ap (one_made s.held.copy.at (left_as w.control.frame.index x sent last reply) (outcome_in (planned x) sent last reply) ns)
               (ap (λ (y : World). y.control.frame.reply) next)
@@ -232,13 +247,15 @@ module _ (fixed : Fixed) (w : World) (k : IsMixedWorld w) (q f : ℕ) (v : Qh) (
           });
           due = advanced_due v x a old found.qtd (sym tokens) due;
           bit = λ off. absurd (false≢true (sym off ∙ on));
+          head = advanced_of y x a found.qtd s.head;
+          bus = subst B (sym (ap (λ (z : World). z.bus) next)) s.bus;
         })
 
-    goes_by : (y : Qh) → GoesTo w.memory x y → IsAsDue v y → Then
+    goes_by : (z : Qh) → GoesTo w.memory x z → IsAsDue v z → Then
     goes_by _ (to_itself work) due = worked work due
     goes_by _ (to_qtd a old idle unhalted leads aligned word work) due = took a old idle unhalted leads word work due
 
-    pub split_held : IsSplitHeld fixed (controller_next fixed w) (32 * q) f v ⊎ IsSplitTold (controller_next fixed w) P
+    pub split_held : IsSplitHeld fixed y B (controller_next fixed w) (32 * q) f v ⊎ IsSplitTold (controller_next fixed w) P
     split_held = goes_by s.works s.goes s.due
 
   -- ---- its write-back
@@ -258,7 +275,9 @@ module _ (fixed : Fixed) (w : World) (k : IsMixedWorld w) (q f : ℕ) (v : Qh) (
 module _ (fixed : Fixed) (x : Sides) (s : Standing) (m : Lines) (h : Heads) (w : World) (k : IsPiped fixed x s m h w)
     (heads : HeadsHaveFields w.driver w.memory) (sends : QueuesSendData w.driver w.memory) (row : controller_row w ≡ rows.Frame)
     (tells : (controller_next fixed w).bus.microframe ≡ w.bus.microframe)
-    (e q : ℕ) (p : Placement) (i : IsInItsFrames w.driver e q p) (f : ℕ) (v : Qh) (P : QueueMade → Type 0)
+    (e q : ℕ) (p : Placement) (i : IsInItsFrames w.driver e q p) (low : is_high i.endpoint.desc.speed ≡ false)
+    (sized : IsSized i.endpoint.desc) (y : EpDesc) (its : i.endpoint.desc ≡ y) (B : Bus → Type 0)
+    (stays : (b : Bus) → BusGoes fixed w e b → B w.bus → B b) (f : ℕ) (v : Qh) (P : QueueMade → Type 0)
     (t : SoFar) (ns : List QueueMade) where
   abbrev n : ℕ
   n = 32 * q
@@ -270,20 +289,24 @@ module _ (fixed : Fixed) (x : Sides) (s : Standing) (m : Lines) (h : Heads) (w :
   mixed = record { standing = s; mixed = k.mixed }
 
   abbrev After : Type 0
-  After = SplitStage fixed (controller_next fixed w) now ns q f p v P
+  After = SplitStage fixed y B (controller_next fixed w) now ns q f p v P
 
-  module _ (a : IsSplitAhead fixed w t q f p v) where
+  module _ (a : IsSplitAhead fixed B w t q f p v) where
+    apart_queue : (b : ℕ) → held_address w.control.frame.hand ≡ Some b → 32 * i.endpoint.queue ≢ b
+    apart_queue b is same = a.apart b is (ap (λ (c : ℕ). 32 * c) (sym i.queue) ∙ same)
+
     come_to : w.control.frame.hand ≡ None → (b : ℕ) → fetched_by (chain_row w.memory w.control.frame.cursor) ≡ Some b → b ≡ 32 * q
-        → IsSplitHeld fixed (controller_next fixed w) (32 * q) f v
+        → IsSplitHeld fixed y B (controller_next fixed w) (32 * q) f v
     come_to none b is at =
-        let y = a.work in
+        let z = a.work in
         let c = fetched_queue w mixed (in_periodic fixed w row) e q p i b is at in
         let g : HasFetched w (controller_next fixed w) b c.head = has_fetched fixed w row none b c.head c.is in
-        let same : y.queue ≡ c.head =
-        same_Some y.queue c.head (sym y.read ∙ ap (queue_head_at_address w.memory) (sym at) ∙ g.read) in
+        let same : z.queue ≡ c.head =
+        same_Some z.queue c.head (sym z.read ∙ ap (queue_head_at_address w.memory) (sym at) ∙ g.read) in
         let fields : HaveFields (word_at w.memory (32 * q + 4)) (word_at w.memory (32 * q + 8)) i.endpoint.desc p =
         its_words w mixed heads e q p i in
         let read = read_fields w.memory (32 * q) c.head (ap (queue_head_at_address w.memory) (sym at) ∙ g.read) in
+        let places = places_read w.memory (32 * q) c.head (ap (queue_head_at_address w.memory) (sym at) ∙ g.read) in
         record {
           periodic = g.part;
           index = g.index ∙ a.index;
@@ -291,18 +314,22 @@ module _ (fixed : Fixed) (x : Sides) (s : Standing) (m : Lines) (h : Heads) (w :
           hand = g.hand;
           at = at;
           fresh = refl;
-          free = ap (λ (z : Bus). may_not_be_used fixed.holds z.microframe) g.bus ∙ a.free;
-          works = y.works;
-          goes = subst (λ (z : Qh). GoesTo (controller_next fixed w).memory z y.works) same
-              (subst (λ (z : Mem). GoesTo z y.queue y.works) (sym g.memory) (comes_goes w.memory (32 * q) y.queue y.works y.read y.next));
-          due = y.due;
+          free = ap (λ (u : Bus). may_not_be_used fixed.holds u.microframe) g.bus ∙ a.free;
+          works = z.works;
+          goes = subst (λ (u : Qh). GoesTo (controller_next fixed w).memory u z.works) same
+              (subst (λ (u : Mem). GoesTo u z.queue z.works) (sym g.memory) (comes_goes w.memory (32 * q) z.queue z.works z.read z.next));
+          due = z.due;
           bit = λ off.
               subst (λ (mask : ℕ). has mask (microframe_of f) ≡ true) (sym (read.smask ∙ fields.smask))
-              (a.bit (sym y.overlay ∙ ap (λ (z : Qh). z.token.active) same ∙ off));
+              (a.bit (sym z.overlay ∙ ap (λ (u : Qh). u.token.active) same ∙ off));
+          head = subst (λ (d : EpDesc). IsHeadOf d c.head) its
+              (its_fields i.endpoint.desc p (word_at w.memory (32 * q + 4)) (word_at w.memory (32 * q + 8)) c.head sized
+              (k.mixed.numbers e i.endpoint i.here) low fields places read);
+          bus = subst B (sym g.bus) a.bus;
         }
 
     goes_ahead : (w.control.frame.hand ≡ None → fetched_by (chain_row w.memory w.control.frame.cursor) ≡ Some (32 * q) → ⊥)
-        → IsSplitAhead fixed (controller_next fixed w) now q f p v
+        → IsSplitAhead fixed B (controller_next fixed w) now q f p v
     goes_ahead off = record {
       periodic = part_stays fixed x s m h w k heads sends row e q p i a.apart;
       index = index_same fixed x s m h w k heads sends row e q p i a.apart ∙ a.index;
@@ -312,6 +339,7 @@ module _ (fixed : Fixed) (x : Sides) (s : Standing) (m : Lines) (h : Heads) (w :
       overlay = a.overlay;
       work = walked_work fixed x s m h w k heads sends row e q p i a.apart v a.overlay a.work;
       bit = a.bit;
+      bus = stays (controller_next fixed w).bus (bus_goes fixed x s m h w k heads sends row e i.endpoint i.here i.kind apart_queue) a.bus;
     }
 
     none_some : (b : ℕ) → ◌≡◌ {A = Option ℕ} None (Some b) → ⊥
@@ -332,5 +360,5 @@ module _ (fixed : Fixed) (x : Sides) (s : Standing) (m : Lines) (h : Heads) (w :
     by_hand None is = by_fetch is (fetched_by (chain_row w.memory w.control.frame.cursor)) refl
     by_hand (Some b) is = is_ahead (goes_ahead (λ none fetched. some_none b (sym is ∙ none)))
 
-    pub split_ahead : SplitStage fixed (controller_next fixed w) (so_far_after rows.Frame w t) ns q f p v P
+    pub split_ahead : SplitStage fixed y B (controller_next fixed w) (so_far_after rows.Frame w t) ns q f p v P
     split_ahead = by_hand w.control.frame.hand refl

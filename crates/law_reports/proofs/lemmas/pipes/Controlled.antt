@@ -58,6 +58,7 @@ use Rattle.law_reports.proofs.lemmas.pipes.NamesKept.{controller_keeps_names}
 use Rattle.law_reports.proofs.lemmas.pipes.Names.{queue_same, kept_as, unasked, unmet_off, name_is}
 use Rattle.law_reports.proofs.lemmas.pipes.Waiting.{sender_waits, taker_waits, idle_waits, taker_or_parts}
 use Rattle.law_reports.proofs.lemmas.pipes.Waiting.{none_moved, named_still, toggle_still}
+use Rattle.law_reports.proofs.lemmas.pipes.StartingHeads.{starts_then, idle_then}
 
 module _ (fixed : Fixed) (x : Sides) (s : Standing) (m : Lines) (h : Heads) (w : World) (k : IsPiped fixed x s m h w) where
   abbrev d : DriverContent
@@ -187,6 +188,8 @@ module _ (fixed : Fixed) (x : Sides) (s : Standing) (m : Lines) (h : Heads) (w :
         first = λ own. toggle_still begins_by (IsIsoAsk (both s.descs s.parts)) transacts_by s.near h.ends s.parts (joined s.hand s.frame)
             wire after (parts_now s.descs s.parts c.event.now) (joined c.event.later c.event.frame_later) asked (32 * y.queue) none false z
             (q.first own);
+        starts = starts_then fixed s w k.mixed c (32 * y.queue) none (asked_as y.desc) q;
+        idle = idle_then fixed s w k.mixed c (32 * y.queue) none (asked_as y.desc) q;
       }
 
   -- ---- names that weren't opened yet

@@ -1,6 +1,6 @@
 -- What each step of a queue but the end of an open leaves of an endpoint that is being opened, of the packets that moved, and of the queue
 -- heads that are met.
-use Rattle.std.proofs.Common.{◌≡◌, ℕ, ◌*◌, ◌==◌, not, Bool, true, false, slice_get, Some, None, Result, Ok, Err, ap, refl}
+use Rattle.std.proofs.Common.{◌≡◌, ℕ, ◌*◌, ◌==◌, not, Bool, true, slice_get, Some, None, Result, Ok, Err, ap, refl}
 use Rattle.std.proofs.Common.{sym, subst, ◌∙◌}
 use Rattle.std.proofs.lemmas.Bool.{and_parts}
 use Rattle.law_world.proofs.Common.{unlink_open, none_some}
@@ -22,20 +22,20 @@ use Rattle.drv_table.specs.Rows.{driver_row}
 use Rattle.law_driver.proofs.lemmas.run_owners.Commands.{each_command_has_its_reason}
 use Rattle.law_driver.specs.queued_drivers.Queued.{queued}
 use Rattle.law_driver.proofs.lemmas.queued_drivers.RowEvents.{idle_told}
-use Rattle.law_ring.specs.Told.{Endpoint as Told, SameTold}
+use Rattle.law_ring.specs.Told.{Endpoint as Told}
 use Rattle.law_world.specs.memory.Mixed.{Standing, IsMixedAt}
 use Rattle.law_world.specs.memory.Steps.{AreStill, LeftBy, left_the_ring, left_its_frames, HasNoStep}
 use Rattle.law_world.specs.memory.Steps.{left_alike, left_by_frames, left_by_bell, left_by_status, left_by_command}
 use Rattle.law_world.specs.memory.Steps.{QueueStep, stays, harvests, returns, lends, stores, mends, begins, opens, unlinks, narrows, goes}
 use Rattle.law_world.specs.memory.pipe_steps.Laws.{IsNoOpening}
 use Rattle.law_world.proofs.lemmas.memory.RingBasis.{due_is}
-use Rattle.law_world.proofs.lemmas.memory.lemmas.pipe_steps.Stays.{stays_tells_one_hand}
-use Rattle.law_reports.specs.lines.Lined.{in_hand, Lines}
+use Rattle.law_reports.specs.lines.Lined.{Lines}
 use Rattle.law_reports.specs.lines.TellingLaws.{LinesAfter}
 use Rattle.bus_world.specs.World.{World, driver_parts, driver_next, name_in, commanded_by}
 use Rattle.law_reports.specs.pipes.Piped.{asked_as, IsOpening, IsNewHead, HaveNewHeads}
 use Rattle.law_reports.proofs.lemmas.pipes.Across.{WasIn, was_in, opened_before, row_command, row_ends}
 use Rattle.law_reports.proofs.lemmas.pipes.NewHeads.{lent_head}
+use Rattle.law_reports.proofs.lemmas.pipes.StartingHeads.{told_new_head}
 
 -- ---- the packets that moved
 
@@ -120,9 +120,7 @@ module _ (s : Standing) (w : World) (mixed : IsMixedAt s w) (heads : HaveNewHead
       (subst (λ (c : EpDesc). IsNewHead t (32 * y.queue) (asked_as c)) (sym v.before.comes.desc) (tells (32 * y.queue) (asked_as y.desc) q))
 
   tells_same : (t : Standing) → AreStill s t → (n : ℕ) (u : Told) → IsNewHead s n u → IsNewHead t n u
-  tells_same t still n u q =
-      let same : SameTold (in_hand s) s.parts (in_hand t) t.parts = stays_tells_one_hand s t still.told in
-      record { named = same.endpoint n u q.named; first = λ own. same.toggle n false (q.first own) }
+  tells_same t still n u q = told_new_head s t still.told n u q
 
   by_offer : (t : Standing) → AreStill s t → (line : ℕ) (cmd : Cmd) (r : Result Offered OfferError) → offered w.driver w.memory cmd ≡ r
       → driver_next w ≡ commanded_by w line (name_in cmd) r → HaveNewHeads (driver_next w).driver t

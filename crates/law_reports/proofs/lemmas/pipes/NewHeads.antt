@@ -1,16 +1,19 @@
 -- The queue head of an endpoint that is being opened, once its structures were lent: it is the one that the driver wrote for it.
-use Rattle.std.proofs.Common.{◌≡◌, ◌≢◌, ℕ, ◌*◌, Bool, false, if◌then◌else◌, List, slice_get, Option, Some, None, Result, Ok, ap, refl}
+use Rattle.std.proofs.Common.{◌≡◌, ◌≢◌, ℕ, ◌*◌, Bool, true, false, if◌then◌else◌, List, slice_get, Option, Some, None, Result, Ok, ap, refl}
 use Rattle.std.proofs.Common.{sym, subst, ◌∙◌, ⊎_elim, inl, inr, arith}
 use Rattle.std.specs.Prelude.{◌⊎◌}
+use Rattle.std.proofs.lemmas.Bool.{cases_eq}
 use Rattle.std.proofs.lemmas.Option.{same_Some}
 use Rattle.law_world.proofs.Common.{none_some, same_queue}
 use Rattle.law_common.proofs.Numbers.{zero_one, other_number}
 use Rattle.link_words.specs.declared.refusal.Bad.{Bad}
 use Rattle.word_mem.specs.Memory.{Mem}
 use Rattle.word_mem.specs.Views.{words_at}
+use Rattle.qh_qtd.specs.declared.qtd.Qtd.{Qtd}
 use Rattle.qh_qtd.specs.declared.queue_head.Qh.{Qh}
 use Rattle.qh_qtd.specs.QueueHead.{qh_words, qh_read, IsQhInRange}
 use Rattle.qh_qtd.proofs.QhLaws.{qh_read-words}
+use Rattle.hc_copy.specs.Planning.{host_in}
 use Rattle.claims_base.specs.Controller.{opening_base}
 use Rattle.claims_driver.specs.Leaving.{HasOwners}
 use Rattle.claims_driver.specs.Owners.{runs_of_endpoint, views_of}
@@ -35,6 +38,8 @@ use Rattle.law_driver_ring.specs.LendOpened.{IsOpened}
 use Rattle.law_queues.specs.open_laws.Queues.{IsOpenToLend, IsOpenThere, parts_opened}
 use Rattle.law_descriptors.specs.Both.{both}
 use Rattle.law_descriptors.specs.Meeting.{met}
+use Rattle.law_structures.proofs.lemmas.lent_structures.Altering.{found_queue}
+use Rattle.law_below_hubs.specs.HostEvents.{hand_host}
 use Rattle.law_descriptors.proofs.Rings.{other_off}
 use Rattle.law_descriptors.proofs.Standing.{both_off}
 use Rattle.law_world.specs.memory.Mixed.{IsChainToLend, IsChainThere, IsUnderWay, Standing, IsMixedAt}
@@ -59,6 +64,7 @@ pub record IsReadyHead (d : DriverContent) (m : Mem) : Type 0 where
   pub asks : endpoint_of queue ≡ asked_as endpoint.desc
   pub first : queue.token.toggle ≡ false
   pub fresh : (queue.token.missed ≡ false) × (queue.token.halted ≡ false)
+  pub starts : queue.token.split_state ≡ false
 
 -- they are to be lent still, or are
 module _ (d : DriverContent) (m : Mem) (owners : HasOwners d) (member : ℕ → Bool) (recent : ℕ → Option Kind) (parts : StructureSets)
@@ -80,6 +86,7 @@ module _ (d : DriverContent) (m : Mem) (owners : HasOwners d) (member : ℕ → 
     asks = refl;
     first = refl;
     fresh = (refl, refl);
+    starts = refl;
   }
 
   of_frames : IsChainToLend d m → IsReadyHead d m
@@ -94,6 +101,7 @@ module _ (d : DriverContent) (m : Mem) (owners : HasOwners d) (member : ℕ → 
     asks = refl;
     first = refl;
     fresh = (refl, refl);
+    starts = refl;
   }
 
   lent_once : IsOpenLent d member parts → Stage
@@ -206,6 +214,51 @@ module _ (s : Standing) (w : World) (mixed : IsMixedAt s w) (k : IsOpenToLend (q
       ∙ ap (λ (q : Qh). q.token.toggle) head_is ∙ r.first)
   first_by (Stale at old) other = sym (ap (λ (q : Qh). q.token.toggle) head_is ∙ r.first)
 
+  starts_by : (h : Hand) → SettlesElsewhere h (32 * k.endpoint.queue) → (q : Qh)
+      → parts_opened k s.parts (32 * k.endpoint.queue) (32 * k.endpoint.queue) ≡ Some (QueueHead q)
+      → (hand_host h (32 * k.endpoint.queue) q).waiting ≡ false
+  starts_by h other q there = by h other
+    where
+      is : q ≡ k.queue
+      is = found_queue (parts_opened k s.parts n n) q k.queue there head_here
+
+      own : q.token.split_state ≡ false
+      own = ap (λ (v : Qh). v.token.split_state) (is ∙ head_is) ∙ r.starts
+
+      by : (l : Hand) → SettlesElsewhere l (32 * k.endpoint.queue) → (hand_host l (32 * k.endpoint.queue) q).waiting ≡ false
+      by Empty other = own
+      by (Copied c) other = own
+      by (Settled c z) other = ap (λ (b : Bool). (if b then z.host else host_in q).waiting) (other_number c.at n other) ∙ own
+      by (Stale at old) other = own
+
+  head_element : (q : Qh) (u : Qtd) → ◌≡◌ {A = Option Structure} (Some (QueueHead q)) (Some (Element u)) → ⊥
+  head_element q u e = cc
+
+  none_element : (u : Qtd) → ◌≡◌ {A = Option Structure} None (Some (Element u)) → ⊥
+  none_element u e = cc
+
+  same_element : (t u : Qtd) → ◌≡◌ {A = Option Structure} (Some (Element t)) (Some (Element u)) → t ≡ u
+  same_element t u e = cc
+
+  -- the qTD at its end isn't active
+  none_active : (a : ℕ) (u : Qtd) → parts_opened k s.parts (32 * k.endpoint.queue) a ≡ Some (Element u) → u.token.active ≡ true → ⊥
+  none_active a u there on =
+      ⊎_elim
+      (λ (at : a ≡ 32 * k.endpoint.dummy).
+      let is : dummy_qtd ≡ u = same_element dummy_qtd u
+      (sym (put_same (put s.parts n n (QueueHead k.queue)) n (32 * k.endpoint.dummy) (Element dummy_qtd))
+      ∙ ap (parts_opened k s.parts n) (sym at) ∙ there) in
+      absurd (let e : false ≡ true = ap (λ (t : Qtd). t.token.active) is ∙ on in cc))
+      (λ (differs : a ≢ 32 * k.endpoint.dummy).
+      ⊎_elim
+      (λ (at : a ≡ n). head_element k.queue u (sym head_here ∙ ap (parts_opened k s.parts n) (sym at) ∙ there))
+      (λ (other : a ≢ n).
+      none_element u
+      (sym (ap (λ (q : ℕ). s.parts (32 * q) a) one_queue ∙ none_told s w mixed r a)
+      ∙ sym (put_else s.parts n n (QueueHead k.queue) a other)
+      ∙ sym (put_else (put s.parts n n (QueueHead k.queue)) n (32 * k.endpoint.dummy) (Element dummy_qtd) a differs) ∙ there))
+      (cases_eq a n)) (cases_eq a (32 * k.endpoint.dummy))
+
   pub lent_head : (e : ℕ) (y : Endpoint) → slice_get w.driver.endpoints e ≡ Some y → IsOpening w.driver y
       → IsNewHead (record s { parts = parts_opened k s.parts }) (32 * y.queue) (asked_as y.desc)
   lent_head e y here opening =
@@ -225,4 +278,6 @@ module _ (s : Standing) (w : World) (mixed : IsMixedAt s w) (k : IsOpenToLend (q
           own = ap (λ (t : Told). t.dtc) asks ∙ own;
           is = first_by (in_hand s) settled;
         };
+        starts = λ q there. starts_by (in_hand s) settled q there;
+        idle = λ a u there on. none_active a u there on;
       })

@@ -23,7 +23,7 @@ use Rattle.law_driver.specs.queued_drivers.Queued.{queued_endpoint, queued}
 use Rattle.law_driver.specs.queued_drivers.Rows.{QueuesAlike}
 use Rattle.law_driver.proofs.lemmas.chained_transfers.Staying.{linked_stands_alive}
 use Rattle.law_driver.proofs.lemmas.ring_members.Placed.{has_queue, queue_off_head}
-use Rattle.law_ring.specs.Told.{Endpoint as Told, SameTold}
+use Rattle.law_ring.specs.Told.{Endpoint as Told}
 use Rattle.law_controller.specs.controlled_streams.Opened.{with_stream, with_end}
 use Rattle.law_controller.specs.controlled_streams.Unopened.{IsUntouched, IsUnopened}
 use Rattle.law_driver_ring.specs.fed_queues.Places.{IsMet, AreMet}
@@ -37,7 +37,6 @@ use Rattle.law_world.specs.memory.Steps.{HasOpened, opens}
 use Rattle.law_world.specs.memory.pipe_steps.Laws.{IsBegun, as_in, as_out, as_none}
 use Rattle.law_world.specs.memory.pipe_steps.Pipes.{AsksTheWay, AreByWay}
 use Rattle.law_world.proofs.lemmas.memory.lemmas.pipe_steps.Opens.{an_open_begins_pipes}
-use Rattle.law_world.proofs.lemmas.memory.lemmas.pipe_steps.Stays.{stays_tells_one_hand}
 use Rattle.law_reports.specs.lines.Lined.{in_hand, Lines}
 use Rattle.law_reports.specs.lines.TellingLaws.{IsTellingNext}
 use Rattle.law_reports.proofs.lemmas.lines.Driven.{rows_keep_iso_going}
@@ -48,10 +47,12 @@ use Rattle.law_reports.specs.pipes.Piped.{Heads, asked_as, AreEndsNamed, IsOpeni
 use Rattle.law_reports.proofs.lemmas.pipes.Across.{WasIn}
 use Rattle.law_reports.proofs.lemmas.pipes.Carried.{WasMet, was_met, fresh_carried, declared_carried}
 use Rattle.law_reports.proofs.lemmas.pipes.Driven.{was_end, now_end}
-use Rattle.law_reports.proofs.lemmas.pipes.Names.{WasQueued, was_queued, queue_same, kept_as, same_number, met_near, unmet_off, by_real, by_queued}
+use Rattle.law_reports.proofs.lemmas.pipes.Names.{WasQueued, was_queued, queue_same, kept_as, same_number, met_near, unmet_off}
+use Rattle.law_reports.proofs.lemmas.pipes.Names.{by_real, by_queued}
 use Rattle.law_reports.proofs.lemmas.pipes.Names.{unasked, name_is}
 use Rattle.law_reports.proofs.lemmas.pipes.NamesKept.{driver_keeps_names}
 use Rattle.law_reports.proofs.lemmas.pipes.NewHeads.{made_once}
+use Rattle.law_reports.proofs.lemmas.pipes.StartingHeads.{told_new_head}
 
 -- ---- kinds and speeds
 
@@ -119,12 +120,7 @@ module _ (fixed : Fixed) (x : Sides) (s : Standing) (m : Lines) (h : Heads) (w :
       (k.new_heads at.number y its.here opening (made_once s w k.mixed at))
 
   pub head_then : IsNewHead t (32 * at.endpoint.queue) (asked_as y.desc)
-  head_then =
-      let same : SameTold (in_hand s) s.parts (in_hand t) t.parts = stays_tells_one_hand s t opened.told in
-      record {
-        named = same.endpoint n its_end head_there.named;
-        first = λ own. same.toggle n false (head_there.first own);
-      }
+  head_then = told_new_head s t opened.told (32 * at.endpoint.queue) (asked_as y.desc) head_there
 
   -- ---- its name
 

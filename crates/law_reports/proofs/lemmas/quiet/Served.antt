@@ -54,7 +54,7 @@ named_by kinds.Interrupt name k = not_zero name.num k.least
 named_by kinds.Iso name k = not_zero name.num k.least
 
 module _ (text : List ℕ) (s : Script) (spelled : Spells text s) (x : EpDesc) (o : IsOpened s x) where
-  its_name : HasItsName x
+  pub its_name : HasItsName x
   its_name = nth_all (λ l. NamesLine l.1) s.lines o.place (o.number, lines.Command (commands.OpenEp x))
       (texts_name_endpoints text s spelled).opened o.here
 

@@ -1,43 +1,32 @@
 -- Once Async Advance is cleared no more is told of the queues of the control endpoints that have left the ring.
-use Rattle.std.proofs.Common.{◌≡◌, ℕ, ◌*◌, ◌&&◌, not, ◌++◌, if◌then◌else◌, Bool, true, false, [], slice_get, Option, Some, None, ap, refl, sym, subst, ◌∙◌, ⊎_elim, inl, inr}
+use Rattle.std.proofs.Common.{[], ◌≡◌, ℕ, ◌*◌, ◌&&◌, not, ◌++◌, if◌then◌else◌, Bool, true, false, slice_get, Option, Some, None, ap, refl, sym, subst, ◌∙◌, ⊎_elim, inl, inr}
 use Rattle.std.specs.Prelude.{◌⊎◌}
 use Rattle.std.proofs.lemmas.Bool.{false≢true}
 use Rattle.law_common.proofs.Booleans.{first_of_both, less_met, is_left}
 use Rattle.bus_wire.specs.Bus.{Fixed}
 use Rattle.drv_table.specs.declared.content.Endpoint.{Endpoint}
 use Rattle.drv_table.specs.declared.content.Transfer.{Transfer}
-use Rattle.drv_table.specs.declared.rows.DriverRow.{DriverRow}
 use Rattle.drv_table.specs.DriverContent.{DriverContent}
 use Rattle.drv_table.specs.Harvests.{note_at}
 use Rattle.drv_table.specs.Parts.{Parts}
-use Rattle.drv_table.specs.Rows.{driver_row, after_driver_row}
 use Rattle.drv_table.specs.Words.{head_block}
 use Rattle.law_driver.specs.endpoint_lives.Lives.{told_end, may_meet}
 use Rattle.law_driver_ring.specs.fed_queues.Places.{IsMet, HasHead, AreMet}
-use Rattle.law_queues.proofs.lemmas.leaving_drivers.Clearing.{clear_finds}
 use Rattle.law_queues.proofs.lemmas.leaving_drivers.Unmet.{gone_are_unmet}
-use Rattle.law_world.specs.streams.narrowed_streams.Narrowed.{left_names}
 use Rattle.claims_report.specs.Requests.{Request}
 use Rattle.law_ring.specs.Stores.{IsWider}
 use Rattle.claims_report.specs.Controls.{control_of}
-use Rattle.bus_world.specs.World.{World, driver_parts, driver_next}
+use Rattle.bus_world.specs.World.{World, driver_parts}
 use Rattle.law_world.specs.steps.Streaming.{Streams, Standing}
 use Rattle.claims_world.specs.Requests.{wired, Windows}
 use Rattle.law_reports.specs.requests.Courses.{NoQueue, CoursesStand}
 use Rattle.law_reports.specs.requests.Records.{AreRecords}
 use Rattle.law_reports.proofs.lemmas.requests.Rows.{row_keeps_records}
-use Rattle.law_world.specs.streams.Clearing.{narrowed_to}
-use Rattle.law_world.specs.streams.Left.{taking_of}
-use Rattle.law_world.specs.streams.Whole.{IsWhole}
-use Rattle.law_world.proofs.lemmas.streams.Fewer.{kept_of}
-use Rattle.law_world.proofs.lemmas.streams.LeavingCleared.{narrow_of, stays_open, clear_whole}
-use Rattle.law_reports.specs.requests.Asking.{Sides, Asking, left_with, has_left, HasCourse, IsMetControl, IsReadTo, IsAskingWorld, HasAskingWorld, AsksIn}
+use Rattle.law_reports.specs.requests.Asking.{Sides, Asking, left_with, has_left, HasCourse, IsMetControl, IsReadTo, IsAskingWorld, AsksIn}
 use Rattle.law_reports.specs.requests.Narrowing.{courses_met, HadQueue, HaveGone}
-use Rattle.law_reports.specs.requests.Rows.{ClearKeepsAsking, IsHeadOfNone}
 use Rattle.law_reports.proofs.lemmas.requests.Narrowing.{courses_are_met, records_are_met, had}
 use Rattle.law_reports.proofs.lemmas.requests.Leaving.{idle_quiet, same_endpoint, RowLeaves, each_still, world_left}
 use Rattle.law_reports.specs.requests.Footing.{IsFooting}
-use Rattle.law_reports.proofs.lemmas.requests.Footing.{footing}
 use Rattle.word_mem.specs.Memory.{Mem}
 use Rattle.drv_table.specs.declared.content.Bell.TheVariants as bells
 use Rattle.drv_table.specs.declared.content.Turn.TheVariants as turns
@@ -133,37 +122,3 @@ module _ (g : Sides) (fixed : Fixed) (member : ℕ → Bool) (x : Streams) (s : 
   cleared_asks =
       world_left g fixed member s a v asks w parts_now leaves z (λ e y c. record { lines = refl; telling = λ reported waits t. record { numbers = t.numbers; told = t.told; wait = t.wait } }) (λ name u. refl)
       narrow s (courses_met narrow a.courses) (had narrow a.courses) z.unmissed.structures z.unmissed.in_hand stand recorded each reads
-
-module _ (g : Sides) (fixed : Fixed) (takes : ℕ → ℕ → Bool) (member : ℕ → Bool) (x : Streams) (s : Standing) (a : Asking) (v : Windows)
-    (asks : ℕ → Request) (w : World) (row : driver_row (driver_parts w) ≡ rows.ClearAdvance) (head : IsHeadOfNone x)
-    (k : IsWhole fixed takes member x s w) (z : IsAskingWorld g fixed member s a v asks w) where
-  driver_is : (driver_next w).driver ≡ cleared w.driver
-  driver_is = ap (λ (r : DriverRow). (after_driver_row r (driver_parts w)).driver) row
-
-  whole : IsWhole fixed (taking_of takes (driver_next w).driver) (narrow_of w) (narrowed_to x (driver_next w).driver (narrow_of w)) s (driver_next w)
-  whole = clear_whole fixed takes member x s w row k
-
-  still_met : AreMet (cleared w.driver) (narrow_of w)
-  still_met = subst (λ (d : DriverContent). AreMet d (narrow_of w)) driver_is whole.feeding.queues.met
-
-  cleared_world : HasAskingWorld g fixed takes x.stream x.packets v asks (driver_next w)
-  cleared_world = record {
-    member = narrow_of w;
-    streams = (narrowed_to x (driver_next w).driver (narrow_of w)).streams;
-    endpoint = x.endpoint;
-    standing = s;
-    ins = (narrowed_to x (driver_next w).driver (narrow_of w)).stream;
-    outs = taking_of takes (driver_next w).driver;
-    asking = record { courses = courses_met (narrow_of w) a.courses; numbers = a.numbers };
-    whole = whole;
-    world = subst (λ (c : DriverContent). AsksIn g (narrow_of w) s.parts s.hand (record { courses = courses_met (narrow_of w) a.courses; numbers = a.numbers }) v asks c (driver_next w).memory (wired fixed w)) (sym driver_is)
-        (cleared_asks g fixed member x s a v asks w (footing fixed takes member x s w k head) z (narrow_of w) still_met (clear_finds (driver_parts w) row).idle (driver_next w).memory);
-    head = head;
-    ins_stay = stays_open (driver_next w).driver true x.stream;
-    outs_stay = stays_open (driver_next w).driver false takes;
-    ins_were = kept_of x.stream (left_names (driver_next w).driver true);
-    outs_were = kept_of takes (left_names (driver_next w).driver false);
-  }
-
-pub clear_keeps_asking : ClearKeepsAsking
-clear_keeps_asking g fixed takes member x s a v asks w row head k z = cleared_world g fixed takes member x s a v asks w row head k z

@@ -1,5 +1,5 @@
 -- A harvest that ends a transfer: what it leaves of the requests of all control endpoints, beside those of its own endpoint.
-use Rattle.std.proofs.Common.{◌≡◌, ◌≢◌, ℕ, zero, suc, ◌-◌, ◌*◌, ◌<◌, Bool, true, false, not, ◌&&◌, ◌||◌, if◌then◌else◌, List, [], ◌++◌, length, slice_get, slice_set, Option, Some, None, option_map, ap, refl, sym, subst, ◌∙◌, ⊎_elim, arith}
+use Rattle.std.proofs.Common.{[], ◌≡◌, ◌≢◌, ℕ, zero, suc, ◌-◌, ◌*◌, ◌<◌, Bool, true, false, not, ◌&&◌, ◌||◌, if◌then◌else◌, List, ◌++◌, length, slice_get, slice_set, Option, Some, None, option_map, ap, refl, sym, subst, ◌∙◌, ⊎_elim, arith}
 use Rattle.std.proofs.lemmas.Bool.{cases_eq, false≢true}
 use Rattle.std.proofs.lemmas.Option.{same_Some}
 use Rattle.law_common.proofs.Lists.{set_here, set_there}
@@ -17,13 +17,11 @@ use Rattle.drv_table.specs.declared.content.Endpoint.{Endpoint}
 use Rattle.drv_table.specs.declared.content.Mend.{Mend}
 use Rattle.drv_table.specs.declared.content.QtdNote.{QtdNote}
 use Rattle.drv_table.specs.declared.content.Transfer.{Transfer}
-use Rattle.drv_table.specs.declared.rows.DriverRow.{DriverRow}
 use Rattle.drv_table.specs.declared.rows.Found.{Found}
 use Rattle.drv_table.specs.DriverContent.{DriverContent}
 use Rattle.drv_table.specs.Harvests.{note_at, end_of, is_stall}
-use Rattle.drv_table.specs.Rows.{driver_row, after_driver_row}
 use Rattle.drv_table.specs.Harvesting.{served, harvested_as}
-use Rattle.drv_table.specs.Words.{head_block, opening_head, request_stages}
+use Rattle.drv_table.specs.Words.{request_stages}
 use Rattle.law_driver.specs.endpoint_lives.Lives.{told_end, may_meet, is_one_of}
 use Rattle.law_driver_ring.specs.fed_queues.Places.{IsMet}
 use Rattle.law_driver_ring.proofs.lemmas.fed_queues.Places.{stands_met}
@@ -36,7 +34,6 @@ use Rattle.law_queues.specs.harvest_laws.RowLaws.{IsReadNext}
 use Rattle.law_queues.proofs.lemmas.harvest_laws.Places.{unmoved_noted, one_later}
 use Rattle.law_queues.proofs.lemmas.harvest_laws.ReadRows.{read_next}
 use Rattle.claims_report.specs.Requests.{Request}
-use Rattle.law_ring.specs.Told.{endpoint_of}
 use Rattle.law_request.specs.Host.{has_data}
 use Rattle.law_devices.specs.ring_requests.Laid.{Places}
 use Rattle.law_devices.specs.ring_requests.Runs.{first_of}
@@ -44,7 +41,7 @@ use Rattle.law_queues.specs.told_endpoints.Telling.{lines_in}
 use Rattle.law_queues.proofs.lemmas.told_endpoints.Names.{same_name_is}
 use Rattle.law_reports.specs.requests.told_requests.Told.{has_cancel}
 use Rattle.claims_report.specs.Controls.{control_of}
-use Rattle.bus_world.specs.World.{World, driver_parts, driver_next, with_parts}
+use Rattle.bus_world.specs.World.{World, driver_parts}
 use Rattle.law_world.specs.steps.Streaming.{Streams, Standing}
 use Rattle.claims_world.specs.Requests.{wired, Windows, numbers_of, opens, is_opening}
 use Rattle.law_reports.specs.requests.driver_requests.Requests.{IsLaidOut}
@@ -55,20 +52,14 @@ use Rattle.law_reports.specs.requests.Counts.{counted_all}
 use Rattle.law_reports.specs.requests.Records.{Numbers, AreRecords}
 use Rattle.law_reports.proofs.lemmas.requests.Rows.{row_keeps_records}
 use Rattle.law_reports.proofs.lemmas.requests.Telling.{other_harvest_keeps_telling}
-use Rattle.law_world.specs.streams.HarvestFeeds.{HarvestLeaves}
-use Rattle.law_world.specs.streams.Whole.{IsWhole}
-use Rattle.law_world.proofs.lemmas.streams.Leaving.{due, leaves, whole_harvested}
-use Rattle.law_reports.specs.requests.Asking.{IsUnheard, Sides, IsGiven, Asking, has_left, left_with, next_with, DataIsRead, HasCourse, HasTelling, IsCounted, IsUnopened, IsControlOf, IsMetControl, IsReadTo, IsAskingWorld, HasAskingWorld}
+use Rattle.law_reports.specs.requests.Asking.{IsUnheard, Sides, IsGiven, Asking, has_left, left_with, next_with, DataIsRead, HasCourse, HasTelling, IsCounted, IsUnopened, IsControlOf, IsMetControl, IsReadTo, IsAskingWorld}
 use Rattle.law_reports.specs.requests.Ended.{ended_driver}
-use Rattle.law_reports.specs.requests.Endings.{EndedBesideKeepsAsking}
 use Rattle.law_reports.proofs.lemmas.requests.Beside.{one_queue}
 use Rattle.law_reports.proofs.lemmas.requests.Ending.{TransferEnds, end_with, stall_owes, ends_so, IsSameBut, end_same, WasEndpoint, owed_at, appended_at}
-use Rattle.law_reports.proofs.lemmas.requests.Has.{asking_of}
 use Rattle.law_reports.proofs.lemmas.requests.Leaving.{IsQuiet, idle_quiet, IsEndpointStill}
 use Rattle.law_reports.proofs.lemmas.requests.Moves.{first_one, second_one}
 use Rattle.law_reports.proofs.lemmas.requests.Missed.{narrow_unmissed, narrow_misses, none_published}
 use Rattle.law_reports.specs.requests.Footing.{IsFooting}
-use Rattle.law_reports.proofs.lemmas.requests.Footing.{footing}
 use Rattle.drv_table.specs.declared.content.Command.TheVariants as unfinished
 use Rattle.drv_table.specs.declared.rows.DriverRow.TheVariants as rows
 use Rattle.drv_table.specs.declared.rows.Found.TheVariants as founds
@@ -416,27 +407,3 @@ module _ (g : Sides) (fixed : Fixed) (member : ℕ → Bool) (x : Streams) (s : 
       (λ z is kept. absurd (none_ends other z is))
 
 -- ---- the row of a world of bulk and control endpoints
-
-module _ (fixed : Fixed) (takes : ℕ → ℕ → Bool) (member : ℕ → Bool) (x : Streams) (s : Standing) (w : World) (e t m : ℕ) (what : What)
-    (row : driver_row (driver_parts w) ≡ rows.Harvest e t (founds.Ended m what)) (k : IsWhole fixed takes member x s w) where
-  pub row_due : IsHarvestDue (driver_parts w) e t (founds.Ended m what)
-  row_due = due fixed takes member x s w e t (founds.Ended m what) row k
-
-  pub row_leaves : HarvestLeaves fixed member x s (driver_next w)
-  row_leaves = leaves fixed takes member x s w e t (founds.Ended m what) row k
-
-  pub row_turns : AsynchronousTakesTurns (ended_driver w e t (founds.Ended m what))
-  row_turns = subst (λ (r : DriverRow). AsynchronousTakesTurns (after_driver_row r (driver_parts w)).driver) row row_leaves.feeding.turns
-
-  -- the world with its requests
-  pub row_asks : (g : Sides) (b : Asking) (v : Windows) (asks : ℕ → Request) → x.endpoint (32 * head_block) ≡ endpoint_of opening_head
-      → IsAskingWorld g fixed member s b v asks (record w { driver = ended_driver w e t (founds.Ended m what) })
-      → HasAskingWorld g fixed takes x.stream x.packets v asks (driver_next w)
-  row_asks g b v asks head q =
-      asking_of g fixed takes member x (record s { out = row_leaves.out; reported = row_leaves.reported }) b v asks (driver_next w) (whole_harvested fixed takes member x s w e t (founds.Ended m what) row k row_leaves)
-      (subst (λ (r : DriverRow). IsAskingWorld g fixed member (record s { out = row_leaves.out; reported = row_leaves.reported }) b v asks (with_parts w (after_driver_row r (driver_parts w)))) (sym row) q) head
-
-pub ended_beside_keeps_asking : EndedBesideKeepsAsking
-ended_beside_keeps_asking g fixed takes member x s a v asks w e t m what row other head k q =
-    row_asks fixed takes member x s w e t m what row k g a v asks head
-    (beside_asks g fixed member x s a v asks w e t m what (row_due fixed takes member x s w e t m what row k) (row_turns fixed takes member x s w e t m what row k) (footing fixed takes member x s w k head) q other)

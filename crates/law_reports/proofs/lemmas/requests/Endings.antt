@@ -1,5 +1,5 @@
 -- A harvest that ends a control request, in a world with the requests of its control endpoints.
-use Rattle.std.proofs.Common.{◌≡◌, ◌≢◌, ℕ, zero, suc, ◌+◌, ◌-◌, ◌*◌, ◌<◌, ◌≤◌, Bool, true, false, if◌then◌else◌, List, [], ◌∷◌, ◌++◌, slice_get, slice_set, Option, Some, None, option_map, ap, refl, sym, subst, ◌∙◌, ⊎_elim, ◌⊎◌, inl, inr, arith}
+use Rattle.std.proofs.Common.{[], ◌≡◌, ◌≢◌, ℕ, zero, suc, ◌+◌, ◌-◌, ◌*◌, ◌<◌, ◌≤◌, Bool, true, false, if◌then◌else◌, List, ◌∷◌, ◌++◌, slice_get, slice_set, Option, Some, None, option_map, ap, refl, sym, subst, ◌∙◌, ⊎_elim, ◌⊎◌, inl, inr, arith}
 use Rattle.std.proofs.lemmas.Bool.{cases_eq, cases_lt, eq-eqb, false≢true}
 use Rattle.std.proofs.lemmas.Option.{same_Some}
 use Rattle.law_reports.proofs.Common.{first_unmoved, less_one}
@@ -35,16 +35,14 @@ use Rattle.law_reports.specs.requests.Courses.{Course, queue_in, is_asking, with
 use Rattle.law_reports.specs.requests.Records.{Numbers, IsRecord}
 use Rattle.law_reports.specs.requests.TransferChanges.{with_numbers, first_closed, all_closed}
 use Rattle.law_reports.specs.requests.Telling.{IsTelling}
-use Rattle.law_reports.specs.requests.Asking.{Sides, Asking, next_with, next_in, HasCourse, HasTelling, IsMetControl, IsReadTo, IsAskingWorld, IsControlOf, HasAsks}
+use Rattle.law_reports.specs.requests.Asking.{Sides, Asking, next_with, next_in, HasCourse, HasTelling, IsMetControl, IsReadTo, IsAskingWorld, HasAsks}
 use Rattle.law_reports.specs.requests.Reading.{AreSilent}
 use Rattle.law_reports.specs.requests.Ended.{ReadsFirst, ended_driver, RequestEnds}
-use Rattle.law_reports.specs.requests.Endings.{DoneKeepsAsking, HaltKeepsAsking}
 use Rattle.law_reports.proofs.lemmas.requests.Ended.{has, rec, reads, uncancelled, done_ends}
 use Rattle.law_reports.proofs.lemmas.requests.Halted.{halt_ends}
 use Rattle.law_reports.proofs.lemmas.requests.Ending.{end_with, stall_owes, appended_at, end_told, halted_next, IsHeadWithin, next_within}
-use Rattle.law_reports.proofs.lemmas.requests.EndedBeside.{data_three, is_number, ends, same_but, own_now, was_of, quiet, quiet_now, due_met, next_now, transfer_was, next_read, note_kept, placed, asking_new, row_due, row_turns, row_asks}
+use Rattle.law_reports.proofs.lemmas.requests.EndedBeside.{data_three, is_number, ends, same_but, own_now, was_of, quiet, quiet_now, due_met, next_now, transfer_was, next_read, note_kept, placed, asking_new}
 use Rattle.law_reports.specs.requests.Footing.{IsFooting}
-use Rattle.law_reports.proofs.lemmas.requests.Footing.{footing}
 use Rattle.law_reports.proofs.lemmas.requests.Courses.{has_with}
 use Rattle.law_driver.specs.chained_transfers.AsynchronousTurns.{AsynchronousTakesTurns}
 use Rattle.usb_base.specs.declared.reports.What.TheVariants as lines
@@ -358,23 +356,3 @@ module _ (g : Sides) (fixed : Fixed) (member : ℕ → Bool) (x : Streams) (s : 
     world = ended_asks g fixed member x s a v asks w e t m lines.Done done_due turns_then k q control done_due.endpoint.ended (first_closed own)
         (done_ends g fixed member x s a v asks w e t m done_due control k silent q) refl (ap is_asking first.asked) refl goes_on goes_still (inr refl) reads_none;
   }
-
--- ---- the row of a world of bulk and control endpoints
-
-its_asked : (g : Sides) (d : DriverContent) (e : ℕ) (x z : Endpoint) → slice_get d.endpoints e ≡ Some x → IsControlOf g d e z
-    → g.asks x.desc ≡ true
-its_asked g d e x z here is = ap (λ (y : Endpoint). g.asks y.desc) (same_Some x z (sym here ∙ is.here)) ∙ is.control
-
-pub halt_keeps_asking : HaltKeepsAsking
-halt_keeps_asking g fixed takes member x s a v asks w e t m cause z row is head k silent q =
-    let due = row_due fixed takes member x s w e t m (lines.Halt cause) row k in
-    let made = halt_asks g fixed member x s a v asks w e t m cause due (row_turns fixed takes member x s w e t m (lines.Halt cause) row k) (footing fixed takes member x s w k head) silent q
-    (its_asked g w.driver e due.endpoint z due.here is) in
-    row_asks fixed takes member x s w e t m (lines.Halt cause) row k g made.asking v asks head made.world
-
-pub done_keeps_asking : DoneKeepsAsking
-done_keeps_asking g fixed takes member x s a v asks w e t m z row is head k silent q =
-    let due = row_due fixed takes member x s w e t m lines.Done row k in
-    let made = done_asks g fixed member x s a v asks w e t m due (row_turns fixed takes member x s w e t m lines.Done row k) (footing fixed takes member x s w k head) silent q
-    (its_asked g w.driver e due.endpoint z due.here is) in
-    row_asks fixed takes member x s w e t m lines.Done row k g made.asking v asks head made.world

@@ -1,5 +1,5 @@
 -- Each script that a text spells has for its control endpoints what its commands ask of them.
-use Rattle.std.proofs.Common.{◌≡◌, ℕ, ◌≤◌, true, false, List, [], ◌∷◌, length, Option, Some, None, refl, sym, ap, subst, ◌∙◌, inl, inr, ◌⊎◌, arith, not}
+use Rattle.std.proofs.Common.{◌≡◌, ℕ, ◌≤◌, true, false, List, length, Option, Some, None, refl, sym, ap, subst, ◌∙◌, inl, inr, ◌⊎◌, arith, not}
 use Rattle.std.specs.Prelude.{◌==◌, find}
 use Rattle.std.specs.List.{AllByRecursion}
 use Rattle.std.specs.Option.{option_map, option_and_then}
@@ -31,14 +31,11 @@ use Rattle.law_devices.specs.declared_controls.Opened.{stages_of, HasItsControl,
 use Rattle.claims_report.specs.Controls.{is_of_hub}
 use Rattle.law_devices.specs.declared_controls.Names.{HasItsName, NamesLine}
 use Rattle.law_devices.specs.declared_controls.Requests.{AsksLine}
-use Rattle.law_devices.proofs.lemmas.declared_controls.Controls.{texts_open_controls, texts_name_endpoints, texts_ask_requests}
 use Rattle.law_devices.proofs.lemmas.declared_controls.Drafts.{has_hub, IsToldLine, IsToldDraft, after_told}
 use Rattle.law_devices.proofs.lemmas.declared_controls.Requests.{IsEight, form_eight}
 use Rattle.law_devices.proofs.lemmas.declared_controls.Texts.{is_ranged, spelled_kept}
-use Rattle.law_world.proofs.lemmas.streams.Moments.{spelled_asynchronous}
 use Rattle.law_reports.specs.requests.Asking.{IsGiven}
-use Rattle.law_reports.specs.requests.Given.{sides_of, GivesLine, is_of_device}
-use Rattle.law_reports.specs.requests.Moments.{TextsAsk}
+use Rattle.law_reports.specs.requests.Given.{sides_of, is_of_device}
 use Rattle.law_reports.proofs.lemmas.requests.Scripts.{IsAddressed, IsCounted, commands_in, empty_counted, after_counted, asked_few}
 use Rattle.usb_base.specs.declared.commands.Cmd.TheVariants as cmd
 use Rattle.script_types.specs.declared.scripts.Line.TheVariants as line
@@ -152,27 +149,3 @@ record IsDeclaredLine (s : Script) (l : Line) : Type 0 where
   named : NamesLine l
   asks : AsksLine l
   addressed : Addressed s l
-
-line_gives : (s : Script) (l : Line) → IsDeclaredLine s l → GivesLine (sides_of s) l
-line_gives s (line.Command (cmd.OpenEp x)) k = record { opened = open_given s x k.only.speed k.control k.named k.addressed; asks = tt }
-line_gives s (line.Command (cmd.Control name setup bytes)) k = record { opened = tt; asks = k.asks }
-line_gives s (line.Order event n) k = tt
-line_gives s (line.Micro n) k = tt
-line_gives s (line.Plug n) k = tt
-line_gives s (line.Unplug n) k = tt
-line_gives s _ k = record { opened = tt; asks = tt }
-
-lines_give : (s : Script) (ls : List (ℕ × Line)) → AllByRecursion (λ l. AsynchronousLine l.1) ls
-    → AllByRecursion (λ l. OpensItsControl s l.1) ls → AllByRecursion (λ l. NamesLine l.1) ls
-    → AllByRecursion (λ l. AsksLine l.1) ls → AllByRecursion (λ l. Addressed s l.1) ls → AllByRecursion (λ l. GivesLine (sides_of s) l.1) ls
-lines_give s [] only control named asks addressed = tt
-lines_give s (l ∷ ls) only control named asks addressed = (
-  line_gives s l.1 (record { only = only.0; control = control.0; named = named.0; asks = asks.0; addressed = addressed.0 }),
-  lines_give s ls only.1 control.1 named.1 asks.1 addressed.1,
-)
-
-pub texts_ask : TextsAsk
-texts_ask text s spelled of = record {
-  asynchronous = spelled_asynchronous text s spelled of;
-  given = lines_give s s.lines of (texts_open_controls text s spelled) (texts_name_endpoints text s spelled).opened (texts_ask_requests text s spelled) (spelled_addressed text s spelled);
-}

@@ -14,20 +14,16 @@ use Rattle.drv_table.specs.declared.content.Endpoint.{Endpoint}
 use Rattle.drv_table.specs.declared.content.Mend.{Mend}
 use Rattle.drv_table.specs.declared.content.Transfer.{Transfer}
 use Rattle.drv_table.specs.declared.content.QtdNote.{QtdNote}
-use Rattle.drv_table.specs.declared.rows.DriverRow.{DriverRow}
 use Rattle.drv_table.specs.DriverContent.{DriverContent}
 use Rattle.drv_table.specs.Harvests.{note_at, reported as with_line}
 use Rattle.drv_table.specs.Parts.{Parts}
-use Rattle.drv_table.specs.Rows.{driver_row, after_driver_row}
+use Rattle.drv_table.specs.Rows.{after_driver_row}
 use Rattle.drv_table.specs.Releases.{after_endpoint, cancel_told, cancelled_bytes, is_told, let_go}
-use Rattle.law_driver.specs.run_owners.Due.{IsDue, IsEndpointDue}
-use Rattle.law_driver.proofs.lemmas.run_owners.Reasons.{each_event_is_due}
 use Rattle.law_driver.specs.endpoint_lives.Lives.{is_one_of, told_end, may_meet}
 use Rattle.law_driver.proofs.lemmas.chained_transfers.Chained.{gone_from}
 use Rattle.law_structures.specs.lent_structures.Structures.{StructureSets}
 use Rattle.law_world.specs.steps.endpoint_releases.Released.{without_queue}
 use Rattle.law_world.proofs.lemmas.steps.lemmas.endpoint_releases.Owning.{queue_beside}
-use Rattle.law_world.proofs.lemmas.steps.lemmas.left_queues.Unmet.{cleared_unmet}
 use Rattle.claims_report.specs.Requests.{Request}
 use Rattle.claims_report.specs.Controls.{control_of}
 use Rattle.law_devices.proofs.Places.{set_here, set_beside}
@@ -35,8 +31,8 @@ use Rattle.law_queues.specs.told_endpoints.Telling.{lines_in}
 use Rattle.law_queues.proofs.lemmas.told_endpoints.Lines.{line_of_other}
 use Rattle.law_queues.proofs.lemmas.told_endpoints.Names.{same_name_is}
 use Rattle.law_driver_ring.proofs.lemmas.told_harvests.Keeping.{spared_is_done}
-use Rattle.bus_world.specs.World.{World, driver_parts, driver_next, with_parts}
-use Rattle.law_world.specs.steps.Streaming.{Streams, Standing}
+use Rattle.bus_world.specs.World.{World, driver_parts}
+use Rattle.law_world.specs.steps.Streaming.{Standing}
 use Rattle.claims_world.specs.Requests.{wired, Windows, numbers_of, opens, is_opening}
 use Rattle.law_reports.proofs.lemmas.requests.lemmas.driver_requests.RowOrder.{row_numbers}
 use Rattle.law_reports.specs.requests.Courses.{have_queues, CoursesStand}
@@ -45,17 +41,11 @@ use Rattle.law_reports.specs.requests.Records.{AreRecords}
 use Rattle.law_reports.proofs.lemmas.requests.Rows.{row_keeps_records}
 use Rattle.law_reports.specs.requests.Telling.{IsTelling}
 use Rattle.law_reports.proofs.lemmas.requests.Telling.{other_returns_keep_telling}
-use Rattle.law_world.specs.streams.Releases.{released}
-use Rattle.law_world.specs.streams.Whole.{IsWhole}
-use Rattle.law_world.proofs.lemmas.streams.LeavingReleased.{leaver, endpoint_release_whole}
-use Rattle.law_reports.specs.requests.Asking.{Sides, Asking, left_with, has_left, IsUnheard, IsMetControl, IsReadTo, IsAskingWorld, HasAskingWorld, AsksIn}
-use Rattle.law_reports.specs.requests.Rows.{EndpointReleaseKeepsAsking, IsHeadOfNone}
-use Rattle.law_reports.proofs.lemmas.requests.Has.{asking_of}
+use Rattle.law_reports.specs.requests.Asking.{Sides, Asking, left_with, has_left, IsUnheard, IsMetControl, IsReadTo, IsAskingWorld, AsksIn}
 use Rattle.law_reports.proofs.lemmas.requests.Leaving.{idle_quiet, WasEndpoint, IsEndpointStill, RowLeaves, LinesLeave, each_still, world_left}
-use Rattle.law_reports.proofs.lemmas.requests.Beside.{IsSeated, seated, owner_seated, stand_beside}
+use Rattle.law_reports.proofs.lemmas.requests.Beside.{IsSeated, owner_seated, stand_beside}
 use Rattle.law_reports.proofs.lemmas.requests.Releasing.{next_is}
 use Rattle.law_reports.proofs.lemmas.requests.Missed.{release_misses_none}
-use Rattle.law_reports.proofs.lemmas.requests.Footing.{footing}
 use Rattle.usb_base.specs.declared.reports.What.TheVariants as lines
 use Rattle.drv_table.specs.declared.rows.DriverRow.TheVariants as rows
 
@@ -297,28 +287,3 @@ module _ (g : Sides) (fixed : Fixed) (member : ℕ → Bool) (s : Standing) (a :
   pub given_back_asks : AsksIn g member now s.hand (record { courses = a.courses; numbers = a.numbers }) v asks (after_driver_row (rows.ReleaseEndpoint f) (driver_parts w)).driver (after_driver_row (rows.ReleaseEndpoint f) (driver_parts w)).memory
       (wired fixed w)
   given_back_asks = subst (λ (q : Parts). AsksIn g member now s.hand (record { courses = a.courses; numbers = a.numbers }) v asks q.driver q.memory (wired fixed w)) (sym row_is) world
-
-module _ (g : Sides) (fixed : Fixed) (takes : ℕ → ℕ → Bool) (member : ℕ → Bool) (x : Streams) (s : Standing) (a : Asking) (v : Windows)
-    (asks : ℕ → Request) (w : World) (f : ℕ) (row : driver_row (driver_parts w) ≡ rows.ReleaseEndpoint f) (head : IsHeadOfNone x)
-    (k : IsWhole fixed takes member x s w) (z : IsAskingWorld g fixed member s a v asks w) where
-  abbrev its : Endpoint
-  its = (leaver fixed takes member x s w f row k).endpoint
-
-  its_due : IsEndpointDue (driver_parts w) f
-  its_due = subst (IsDue (driver_parts w)) row (each_event_is_due (driver_parts w))
-
-  given : AsksIn g member (without_queue s.parts (32 * its.queue)) s.hand (record { courses = a.courses; numbers = a.numbers }) v asks (after_driver_row (rows.ReleaseEndpoint f) (driver_parts w)).driver
-      (after_driver_row (rows.ReleaseEndpoint f) (driver_parts w)).memory (wired fixed w)
-  given =
-      let l = leaver fixed takes member x s w f row k in
-      given_back_asks g fixed member s a v asks w (seated member x s w (footing fixed takes member x s w k head))
-      z f its l.leaves.here its_due.idle
-      (cleared_unmet w.driver member 0 f its k.feeding.working.place.sound.owners k.feeding.turns k.feeding.queues.met l.leaves.first l.leaves.here)
-
-  given_back_world : HasAskingWorld g fixed takes x.stream x.packets v asks (driver_next w)
-  given_back_world =
-      asking_of g fixed takes member x (released s its) (record { courses = a.courses; numbers = a.numbers }) v asks (driver_next w) (endpoint_release_whole fixed takes member x s w f row k)
-      (subst (λ (r : DriverRow). IsAskingWorld g fixed member (released s its) (record { courses = a.courses; numbers = a.numbers }) v asks (with_parts w (after_driver_row r (driver_parts w)))) (sym row) given) head
-
-pub endpoint_release_keeps_asking : EndpointReleaseKeepsAsking
-endpoint_release_keeps_asking g fixed takes member x s a v asks w f row head k z = given_back_world g fixed takes member x s a v asks w f row head k z

@@ -1,5 +1,5 @@
 -- The next store by which a stalled control endpoint goes on leaves the queues of all control endpoints as they must stand.
-use Rattle.std.proofs.Common.{◌≡◌, ◌≢◌, ℕ, zero, suc, ◌*◌, ◌<◌, ◌++◌, Bool, true, false, List, [], ◌∷◌, drop, slice_get, take, length, ◌-◌, ◌==◌, ◌&&◌, if◌then◌else◌, Option, Some, None, ap, refl, sym, subst, ◌∙◌, ⊎_elim, arith}
+use Rattle.std.proofs.Common.{[], ◌≡◌, ◌≢◌, ℕ, zero, suc, ◌*◌, ◌<◌, ◌++◌, Bool, true, false, List, ◌∷◌, drop, slice_get, take, length, ◌-◌, ◌==◌, ◌&&◌, if◌then◌else◌, Option, Some, None, ap, refl, sym, subst, ◌∙◌, ⊎_elim, arith}
 use Rattle.std.specs.List.{AllByRecursion}
 use Rattle.std.proofs.lemmas.Bool.{cases_eq, false≢true, true≢false}
 use Rattle.std.proofs.lemmas.Option.{same_Some}
@@ -26,7 +26,7 @@ use Rattle.law_structures.proofs.lemmas.lent_structures.Names.{put_same, put_bes
 use Rattle.law_structures.proofs.lemmas.lent_structures.Altering.{found_queue}
 use Rattle.law_queues.specs.mended_heads.Owed.{StalledQueue, mends_at, store_due, all_left, IsOwed, GoesOnAt}
 use Rattle.law_queues.specs.mended_heads.Mended.{mended_by, IsAtMend, IsMendedWhole, mended as mended_head, head_at, driver_mended, parts_then, hand_then}
-use Rattle.law_queues.proofs.lemmas.mended_heads.Row.{mend_row, last_mend_ends, mend_spares_heads, mend_spares_endpoints, mend_spares_elements}
+use Rattle.law_queues.proofs.lemmas.mended_heads.Row.{last_mend_ends, mend_spares_heads, mend_spares_endpoints, mend_spares_elements}
 use Rattle.law_queues.proofs.lemmas.mended_heads.Mending.{keeps_endpoint, keeps_halted}
 use Rattle.claims_report.specs.Requests.{Request}
 use Rattle.law_ring.specs.Hand.{Hand, Settled}
@@ -43,7 +43,7 @@ use Rattle.law_request.specs.Host.{has_data}
 use Rattle.law_reports.specs.requests.request_bytes.Fresh.{data_places, other_places, request_places, next_of}
 use Rattle.law_driver_ring.specs.told_harvests.Held.{IsDone}
 use Rattle.law_driver_ring.proofs.lemmas.told_harvests.Keeping.{spared_is_done}
-use Rattle.bus_world.specs.World.{World, driver_parts, driver_next}
+use Rattle.bus_world.specs.World.{World, driver_parts}
 use Rattle.law_world.specs.steps.Streaming.{Streams, Standing}
 use Rattle.claims_world.specs.Requests.{wired, Windows}
 use Rattle.law_reports.specs.requests.driver_requests.Requests.{IsLaidOut}
@@ -55,16 +55,11 @@ use Rattle.law_reports.specs.requests.Records.{Numbers, IsRecord, AreRecords}
 use Rattle.law_reports.proofs.lemmas.requests.TransferChanging.{mended_is_recorded}
 use Rattle.law_reports.proofs.lemmas.requests.Rows.{row_keeps_records}
 use Rattle.law_world.specs.streams.Mends.{mended}
-use Rattle.law_world.proofs.lemmas.streams.FedMending.{mend_finds}
-use Rattle.law_world.proofs.lemmas.streams.Mending.{whole_mended}
-use Rattle.law_reports.specs.requests.Asking.{Sides, Asking, has_left, next_with, next_in, HasCourse, IsMetControl, IsReadTo, IsAskingWorld, AsksIn, HasAsks}
-use Rattle.law_reports.specs.requests.Rows.{MendKeepsAsking}
-use Rattle.law_reports.proofs.lemmas.requests.Has.{asking_of}
+use Rattle.law_reports.specs.requests.Asking.{Sides, Asking, has_left, next_with, next_in, HasCourse, IsMetControl, IsReadTo, IsAskingWorld, HasAsks}
 use Rattle.law_reports.proofs.lemmas.requests.Leaving.{idle_quiet, same_endpoint, RowLeaves, each_still, world_left}
 use Rattle.law_reports.proofs.lemmas.requests.Beside.{HasOwner, one_queue, owner_of, stand_beside}
 use Rattle.law_reports.proofs.lemmas.requests.Missed.{writing_misses_none, stale_unmissed}
 use Rattle.law_reports.specs.requests.Footing.{IsFooting}
-use Rattle.law_reports.proofs.lemmas.requests.Footing.{footing}
 use Rattle.law_reports.proofs.lemmas.requests.Courses.{has_with}
 use Rattle.word_mem.specs.Memory.{Mem}
 use Rattle.drv_table.specs.declared.rows.DriverRow.TheVariants as rows
@@ -429,11 +424,3 @@ module _ (g : Sides) (fixed : Fixed) (member : ℕ → Bool) (x : Streams) (s : 
 
   pub mended_asks : HasAsks g member (parts_then at) (hand_then at s.hand) v asks (driver_mended w.driver) more (wired fixed w)
   mended_asks = by_course (a.courses n) refl
-
-pub mend_keeps_asking : MendKeepsAsking
-mend_keeps_asking g fixed takes member x s a v asks w m row head k z =
-    let at : IsAtMend (driver_parts w) s.parts s.out = mend_finds fixed member x s w m row k.feeding in
-    let goes_on : HasAsks g member (parts_then at) (hand_then at s.hand) v asks (driver_mended w.driver) (driver_next w).memory (wired fixed w) =
-    mended_asks g fixed member x s a v asks w (footing fixed takes member x s w k head) z (driver_parts w) at at.idle at.are.mends at.are.owed (driver_next w).memory in
-    asking_of g fixed takes member x (mended s at) goes_on.asking v asks (driver_next w) (whole_mended fixed takes member x s w m row at k)
-    (subst (λ (c : DriverContent). AsksIn g member (parts_then at) (hand_then at s.hand) goes_on.asking v asks c (driver_next w).memory (wired fixed w)) (sym (mend_row (driver_parts w) s.parts s.out at).driver) goes_on.world) head

@@ -10,11 +10,9 @@ use Rattle.drv_table.specs.declared.content.Command.{Command}
 use Rattle.drv_table.specs.declared.content.Endpoint.{Endpoint}
 use Rattle.drv_table.specs.declared.content.QtdNote.{QtdNote}
 use Rattle.drv_table.specs.declared.content.Transfer.{Transfer}
-use Rattle.drv_table.specs.declared.rows.DriverRow.{DriverRow}
 use Rattle.drv_table.specs.declared.rows.Found.{Found}
 use Rattle.drv_table.specs.DriverContent.{DriverContent}
 use Rattle.drv_table.specs.Harvests.{note_at, noted}
-use Rattle.drv_table.specs.Rows.{after_driver_row}
 use Rattle.drv_table.specs.Harvesting.{served, moved_on}
 use Rattle.drv_table.specs.Words.{request_stages}
 use Rattle.law_driver.specs.endpoint_lives.Lives.{told_end}
@@ -28,7 +26,7 @@ use Rattle.law_queues.proofs.lemmas.harvest_laws.ReadRows.{read_next}
 use Rattle.claims_report.specs.Requests.{Request}
 use Rattle.law_request.specs.Host.{has_data}
 use Rattle.law_devices.specs.ring_requests.Windows.{Queue, Sent}
-use Rattle.bus_world.specs.World.{World, driver_parts, driver_next, with_parts}
+use Rattle.bus_world.specs.World.{World, driver_parts}
 use Rattle.law_world.specs.steps.Streaming.{Streams, Standing}
 use Rattle.claims_world.specs.Requests.{Windows, numbers_of}
 use Rattle.law_reports.specs.requests.told_requests.Waiting.{waiting}
@@ -40,17 +38,13 @@ use Rattle.law_reports.specs.requests.Counts.{counted_all}
 use Rattle.law_reports.specs.requests.Records.{AreRecords}
 use Rattle.law_reports.proofs.lemmas.requests.Rows.{row_keeps_records}
 use Rattle.law_queues.specs.standing_fronts.Tails.{tail_of, tail_block}
-use Rattle.law_world.proofs.lemmas.streams.Leaving.{due, leaves, whole_harvested}
 use Rattle.law_reports.specs.requests.Asking.{Sides, Asking, has_left, is_next_of, is_publishing, next_with, DataIsRead, HasCourse, IsPublishingBy, IsMetControl, IsReadTo, IsAskingWorld}
 use Rattle.law_reports.specs.requests.Reading.{AreSilent}
 use Rattle.law_reports.specs.requests.Ended.{ReadsFirst, ended_driver}
-use Rattle.law_reports.specs.requests.Moves.{MovedKeepsAsking}
-use Rattle.law_reports.proofs.lemmas.requests.Has.{asking_of}
 use Rattle.law_reports.proofs.lemmas.requests.Reading.{moved_is_read}
 use Rattle.law_reports.proofs.lemmas.requests.Ended.{reads, same_sent}
 use Rattle.law_reports.proofs.lemmas.requests.Missed.{idle_misses}
 use Rattle.law_reports.specs.requests.Footing.{IsFooting}
-use Rattle.law_reports.proofs.lemmas.requests.Footing.{footing}
 use Rattle.drv_table.specs.declared.rows.DriverRow.TheVariants as rows
 use Rattle.drv_table.specs.declared.rows.Found.TheVariants as founds
 
@@ -226,11 +220,3 @@ module _ (g : Sides) (fixed : Fixed) (member : ℕ → Bool) (x : Streams) (s : 
 
   pub moved_asks : IsAskingWorld g fixed member s a v asks (record w { driver = ended_driver w e t (founds.Moved n) })
   moved_asks = subst (λ (d : DriverContent). IsAskingWorld g fixed member s a v asks (record w { driver = d })) (sym f_is) asking_moved
-
-pub moved_keeps_asking : MovedKeepsAsking
-moved_keeps_asking g fixed takes member x s a v asks w e t n row head k silent q =
-    let l = leaves fixed takes member x s w e t (founds.Moved n) row k in
-    let after : Standing = record s { out = l.out; reported = l.reported } in
-    asking_of g fixed takes member x after a v asks (driver_next w) (whole_harvested fixed takes member x s w e t (founds.Moved n) row k l)
-    (subst (λ (r : DriverRow). IsAskingWorld g fixed member after a v asks (with_parts w (after_driver_row r (driver_parts w)))) (sym row)
-    (moved_asks g fixed member x s a v asks w e t n (due fixed takes member x s w e t (founds.Moved n) row k) (footing fixed takes member x s w k head) silent q)) head

@@ -1,11 +1,10 @@
 -- The queue head and the inactive qTD of an open are lent: the requests of all others stand as they did.
-use Rattle.std.proofs.Common.{◌≡◌, ◌≢◌, ℕ, ◌*◌, Bool, true, slice_get, Some, None, ap, refl, sym, subst, ◌∙◌, false, ⊎_elim}
+use Rattle.std.proofs.Common.{◌≡◌, ◌≢◌, ℕ, ◌*◌, Bool, true, slice_get, Some, None, ap, refl, sym, ◌∙◌, false, ⊎_elim}
 use Rattle.law_common.proofs.Numbers.{same_blocks}
 use Rattle.law_controller.proofs.Common.{same_hand}
 use Rattle.bus_wire.specs.Bus.{Fixed}
 use Rattle.drv_table.specs.declared.content.Endpoint.{Endpoint}
 use Rattle.drv_table.specs.declared.content.Transfer.{Transfer}
-use Rattle.drv_table.specs.DriverContent.{DriverContent}
 use Rattle.drv_table.specs.Harvests.{note_at}
 use Rattle.law_driver.specs.endpoint_lives.Lives.{told_end}
 use Rattle.mem_runs.specs.Book.{holding, lend_taken}
@@ -13,15 +12,12 @@ use Rattle.law_structures.specs.lent_structures.Structures.{Structures, Structur
 use Rattle.claims_report.specs.Requests.{Request}
 use Rattle.claims_report.specs.Controls.{control_of}
 use Rattle.law_driver_ring.proofs.lemmas.told_harvests.Keeping.{spared_is_done}
-use Rattle.bus_world.specs.World.{World, driver_parts, driver_next}
+use Rattle.bus_world.specs.World.{World}
 use Rattle.law_world.specs.steps.Streaming.{Streams, Standing}
 use Rattle.claims_world.specs.Requests.{wired, Windows}
 use Rattle.law_reports.specs.requests.Courses.{have_queues, CoursesStand}
 use Rattle.law_reports.proofs.lemmas.requests.Writing.{same_side}
-use Rattle.law_world.proofs.lemmas.streams.OpenLending.{driver_is, open_lent as whole_lent}
 use Rattle.law_reports.specs.requests.Asking.{Sides, Asking, IsMetControl, IsReadTo, IsAskingWorld, AsksIn}
-use Rattle.law_reports.specs.requests.Rows.{OpenLendKeepsAsking}
-use Rattle.law_reports.proofs.lemmas.requests.Has.{asking_of}
 use Rattle.law_reports.proofs.lemmas.requests.Beside.{HasOwner, owner_of, stand_beside}
 use Rattle.law_reports.proofs.lemmas.requests.Leaving.{open_quiet}
 use Rattle.law_reports.proofs.lemmas.requests.Missed.{writing_misses_none}
@@ -33,11 +29,9 @@ use Rattle.law_driver.proofs.lemmas.chained_transfers.Staying.{linked_stands_ali
 use Rattle.law_driver_ring.specs.fed_queues.Places.{HasHead}
 use Rattle.law_structures.proofs.lemmas.lent_structures.Names.{put_beside}
 use Rattle.law_queues.specs.open_laws.Queues.{IsOpenToLend, parts_opened, open_lent}
-use Rattle.law_queues.proofs.lemmas.open_laws.Lending.{to_lend}
 use Rattle.law_world.proofs.lemmas.streams.Heads.{not_head}
 use Rattle.law_reports.specs.requests.Footing.{IsFooting}
 use Rattle.law_reports.specs.requests.Missed.{NoneMissed}
-use Rattle.law_reports.proofs.lemmas.requests.Footing.{footing}
 use Rattle.law_reports.proofs.lemmas.requests.Inside.{goes_on}
 use Rattle.drv_table.specs.declared.content.Command.TheVariants as unfinished
 
@@ -108,10 +102,3 @@ module _ (g : Sides) (fixed : Fixed) (member : ℕ → Bool) (x : Streams) (s : 
       goes_on g member s.parts now s.hand a v asks w.driver w.memory more (wired fixed w) (lend_taken (holding w.driver.book w.memory)).book 1 z
       (record { structures = unmissed_then; in_hand = z.unmissed.in_hand; first = (open_quiet (open_lent w.driver w.memory) ready.endpoint.queue ready.command).first }) stand
       (λ e y m next. absurd (false≢true (sym ((open_quiet w.driver ready.endpoint.queue ready.command).none e) ∙ next))) reads
-
-pub open_lend_keeps_asking : OpenLendKeepsAsking
-open_lend_keeps_asking g fixed takes member x s a v asks w ready head k z =
-    asking_of g fixed takes member x (record s { parts = parts_opened (to_lend ready) s.parts }) a v asks (driver_next w) (whole_lent fixed takes member x s w ready k)
-    (subst (λ (c : DriverContent). AsksIn g member (parts_opened (to_lend ready) s.parts) s.hand a v asks c (driver_next w).memory (wired fixed w))
-    (driver_is (driver_parts w) ready k.feeding.working.place.sound.owners s.parts k.feeding.working.driven)
-    (open_lent_asks g fixed member x s a v asks w (footing fixed takes member x s w k head) z (to_lend ready) (driver_next w).memory)) head

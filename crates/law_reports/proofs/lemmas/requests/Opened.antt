@@ -1,5 +1,5 @@
 -- An endpoint is opened: the requests of all others stand as they did, and until its queue head is in the ring nothing is told or counted of it.
-use Rattle.std.proofs.Common.{◌≡◌, ◌≢◌, ℕ, suc, ◌-◌, ◌*◌, ◌==◌, ◌&&◌, ◌||◌, not, Bool, true, false, List, [], ◌∷◌, length, drop, get_or, slice_get, if◌then◌else◌, Option, Some, None, Result, option_map, ap, refl, sym, subst, ◌∙◌, ⊎_elim, arith}
+use Rattle.std.proofs.Common.{[], ◌≡◌, ◌≢◌, ℕ, suc, ◌-◌, ◌*◌, ◌==◌, ◌&&◌, ◌||◌, not, Bool, true, false, List, ◌∷◌, length, drop, get_or, slice_get, if◌then◌else◌, Option, Some, None, option_map, ap, refl, sym, subst, ◌∙◌, ⊎_elim, arith}
 use Rattle.std.specs.Prelude.{◌⊎◌}
 use Rattle.std.proofs.lemmas.Bool.{false≢true, and_parts, eqb-true}
 use Rattle.law_queues.proofs.Common.{none_open}
@@ -8,7 +8,6 @@ use Rattle.law_common.proofs.Lists.{drop_first, push_which, still_there}
 use Rattle.law_reports.proofs.Common.{regone}
 use Rattle.law_world.proofs.Common2.{opens_is}
 use Rattle.usb_base.specs.declared.endpoints.EpDesc.{EpDesc}
-use Rattle.usb_base.specs.declared.reports.OfferError.{OfferError}
 use Rattle.word_mem.specs.Memory.{Mem}
 use Rattle.mem_runs.specs.Book.{Holding, holding}
 use Rattle.bus_wire.specs.Bus.{Fixed, Wired}
@@ -23,28 +22,20 @@ use Rattle.law_driver.proofs.lemmas.run_owners.Runs.{placed_run}
 use Rattle.law_driver.proofs.lemmas.run_owners.Taking.{runs_taken}
 use Rattle.law_driver.proofs.lemmas.run_owners.Accepted.{fresh_differs}
 use Rattle.law_driver.specs.chained_transfers.Asynchronous.{IsOpenedAsynchronous}
-use Rattle.law_driver.proofs.lemmas.chained_transfers.Accepting.{asynchronous_command_is_accepted}
 use Rattle.law_driver.proofs.lemmas.chained_transfers.BulkAndControl.{not_iso}
-use Rattle.law_queues.proofs.lemmas.commanded_queues.Which.{opens_its_own}
 use Rattle.law_structures.specs.lent_structures.Structures.{StructureSets}
 use Rattle.claims_report.specs.Requests.{Request}
 use Rattle.law_ring.specs.Hand.{Hand}
-use Rattle.bus_world.specs.World.{World, commanded_by, commanded}
+use Rattle.bus_world.specs.World.{World}
 use Rattle.law_world.specs.steps.Streaming.{Streams, Standing}
 use Rattle.claims_world.specs.Requests.{Windows, wired, opens, is_opening}
 use Rattle.law_reports.specs.requests.driver_requests.Rows.{KeepsRequests}
 use Rattle.law_reports.specs.requests.Courses.{queue_in}
 use Rattle.law_reports.proofs.lemmas.requests.Rows.{accepted_keeps_records}
 use Rattle.law_queues.specs.standing_fronts.Tails.{tail_block}
-use Rattle.law_world.proofs.lemmas.streams.Commanding.{whole_commanded}
 use Rattle.law_reports.specs.requests.Asking.{Sides, IsGiven, Asking, left_with, has_left, is_publishing, IsMetControl, IsAskingWorld, AsksIn}
-use Rattle.law_reports.specs.requests.Commanding.{OpenKeepsAsking}
-use Rattle.law_reports.specs.requests.Given.{GivesOpened}
-use Rattle.law_reports.proofs.lemmas.requests.Has.{asking_of}
 use Rattle.law_reports.specs.requests.Footing.{IsFooting}
-use Rattle.law_reports.proofs.lemmas.requests.Footing.{footing}
 use Rattle.std.proofs.lemmas.Option.{same_Some}
-use Rattle.usb_base.specs.declared.commands.Cmd.TheVariants as commands
 use Rattle.drv_table.specs.declared.content.Command.TheVariants as unfinished
 
 module _ (sides : Sides) (member : ℕ → Bool) (parts : StructureSets) (hand : Hand) (a : Asking) (v : Windows) (asks : ℕ → Request)
@@ -167,12 +158,3 @@ module _ (g : Sides) (fixed : Fixed) (member : ℕ → Bool) (x : Streams) (s : 
       subst (λ (f : Offered). AsksIn g member s.parts s.hand a v asks f.driver f.memory (wired fixed w)) (sym opened.opens.is)
       (opened_asks g member s.parts s.hand a v asks w.driver w.memory (wired fixed w) world opened.opens.idle opened.opens.desc h (get_or (new_runs d h) 0 0) (get_or (new_runs d h) 1 0) apart given
       (accepted_open d opened.opens.desc h (get_or (new_runs d h) 0 0) (get_or (new_runs d h) 1 0)).memory)
-
-pub open_keeps_asking : OpenKeepsAsking
-open_keeps_asking g fixed takes member x s a v asks w line desc o only to fits named given room is k head world =
-    let opened : IsOpenedAsynchronous w.driver w.memory o = asynchronous_command_is_accepted w.driver w.memory (commands.OpenEp desc) o k.feeding.turns.asynchronous only is in
-    let own : commands.OpenEp desc ≡ commands.OpenEp opened.opens.desc = opens_its_own w.driver w.memory (commands.OpenEp desc) o only is opened.opens in
-    let then_asks : AsksIn g member s.parts s.hand a v asks o.driver o.memory (wired fixed w) = opened_in g fixed member x s a v asks w o (footing fixed takes member x s w k head) world opened (subst (GivesOpened g) own given) in
-    let after : IsAskingWorld g fixed member s a v asks (commanded w line (commands.OpenEp desc)) =
-    subst (λ (p : Result Offered OfferError). IsAskingWorld g fixed member s a v asks (commanded_by w line desc.name p)) (sym is) then_asks in
-    asking_of g fixed takes member x s a v asks (commanded w line (commands.OpenEp desc)) (whole_commanded fixed takes member x s w line (commands.OpenEp desc) only (λ p offer. to) fits named room k) after head

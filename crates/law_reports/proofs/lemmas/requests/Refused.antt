@@ -1,11 +1,10 @@
 -- A command that is refused leaves the requests of a world as they must stand: its line tells of no transfer.
-use Rattle.std.proofs.Common.{◌≡◌, ℕ, ◌<◌, ◌*◌, Bool, true, List, [], ◌∷◌, ◌++◌, length, map, slice_get, Option, Some, None, Result, option_map, ap, refl, sym, subst, ◌∙◌, inl, inr}
+use Rattle.std.proofs.Common.{[], ◌≡◌, ℕ, ◌<◌, ◌*◌, Bool, true, List, ◌∷◌, ◌++◌, length, map, slice_get, Option, Some, None, option_map, ap, refl, sym, subst, ◌∙◌, inl, inr}
 use Rattle.std.specs.Prelude.{◌⊎◌, ◌≤◌}
 use Rattle.std.specs.List.{AllByRecursion}
 use Rattle.std.proofs.lemmas.Bool.{cases_lt}
 use Rattle.std.proofs.lemmas.Option.{slice_get_past}
 use Rattle.law_common.proofs.Booleans.{refused_by}
-use Rattle.law_reports.proofs.Common.{asked_before}
 use Rattle.usb_base.specs.declared.endpoints.EpName.{EpName}
 use Rattle.usb_base.specs.declared.reports.OfferError.{OfferError}
 use Rattle.usb_base.specs.declared.reports.What.TheVariants.{Refused}
@@ -16,7 +15,6 @@ use Rattle.drv_table.specs.declared.content.Command.{Command}
 use Rattle.drv_table.specs.declared.content.Endpoint.{Endpoint as DriverEndpoint}
 use Rattle.drv_table.specs.declared.content.Transfer.{Transfer}
 use Rattle.drv_table.specs.DriverContent.{DriverContent}
-use Rattle.drv_table.specs.Accepting.{Offered}
 use Rattle.law_structures.specs.lent_structures.Structures.{Structures}
 use Rattle.claims_report.specs.Requests.{Request, Window}
 use Rattle.law_queues.specs.told_endpoints.Telling.{lines_in}
@@ -24,9 +22,9 @@ use Rattle.law_queues.proofs.lemmas.told_endpoints.Lines.{line_of_other}
 use Rattle.law_reports.specs.requests.told_requests.Told.{has_cancel, AreToldTo}
 use Rattle.law_reports.proofs.lemmas.requests.lemmas.told_requests.Driver.{refusal_stays}
 use Rattle.law_reports.specs.requests.driver_requests.Rows.{KeepsRequests}
-use Rattle.bus_world.specs.World.{World, name_in, refused_line, commanded_by}
+use Rattle.bus_world.specs.World.{World, refused_line}
 use Rattle.law_world.specs.steps.Streaming.{Standing}
-use Rattle.claims_world.specs.Requests.{Windows, endpoint_of as transfers_endpoint, numbers_of, window_at, asks_then}
+use Rattle.claims_world.specs.Requests.{Windows, endpoint_of as transfers_endpoint, numbers_of, window_at}
 use Rattle.law_reports.specs.requests.Courses.{Course}
 use Rattle.law_reports.specs.requests.Records.{Numbers, IsOnceAt, IsClosed, IsRecord, AreRecords}
 use Rattle.law_reports.proofs.lemmas.requests.Lists.{all_map, all_both, numbers_are}
@@ -34,7 +32,6 @@ use Rattle.law_reports.proofs.lemmas.requests.Rows.{accepted_keeps_records}
 use Rattle.law_reports.specs.requests.Telling.{IsTelling}
 use Rattle.law_reports.proofs.lemmas.requests.Telling.{split}
 use Rattle.law_reports.specs.requests.Asking.{Sides, Asking, has_left, IsPublishingBy, IsMetControl, IsAskingWorld}
-use Rattle.law_reports.specs.requests.AskingLaws.{RefusedKeepsAsking}
 use Rattle.drv_table.specs.declared.content.Command.TheVariants as unfinished
 
 -- ---- requests of transfers that aren't there
@@ -209,8 +206,3 @@ there t e ts is = by (cases_lt t (length ts))
       where
         nothing : ◌≡◌ {A = Option ℕ} None (Some e) → ⊥
         nothing is = cc
-
-pub refused_keeps_asking : RefusedKeepsAsking
-refused_keeps_asking g fixed member s a v asks w line cmd why is q =
-    subst (λ (r : Result Offered OfferError). IsAskingWorld g fixed member s a v (asks_then w.driver cmd asks) (commanded_by w line (name_in cmd) r)) (sym is)
-    (asking_refused g fixed member s a v asks (asks_then w.driver cmd asks) w line (name_in cmd) why (λ t e of. asked_before w.driver cmd asks t (there t e w.driver.transfers of)) q)

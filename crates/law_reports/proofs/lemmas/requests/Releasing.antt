@@ -1,5 +1,5 @@
 -- The row that gives a harvested transfer's blocks back leaves the queues of all control endpoints as they stand: what it gives back is no request that waits.
-use Rattle.std.proofs.Common.{◌≡◌, ◌≢◌, ℕ, zero, suc, ◌+◌, ◌*◌, ◌<◌, ◌≤◌, ◌||◌, Bool, true, false, List, [], ◌∷◌, slice_get, Option, Some, None, option_map, ap, refl, sym, subst, ◌∙◌, ⊎_elim, inr, arith}
+use Rattle.std.proofs.Common.{[], ◌≡◌, ◌≢◌, ℕ, zero, suc, ◌+◌, ◌*◌, ◌<◌, ◌≤◌, ◌||◌, Bool, true, false, List, ◌∷◌, slice_get, Option, Some, None, option_map, ap, refl, sym, subst, ◌∙◌, ⊎_elim, inr, arith}
 use Rattle.std.specs.Prelude.{◌⊎◌}
 use Rattle.std.proofs.lemmas.Bool.{cases_eq, false≢true, true≢false}
 use Rattle.std.proofs.lemmas.Option.{same_Some}
@@ -11,7 +11,6 @@ use Rattle.bus_wire.specs.Bus.{Fixed}
 use Rattle.mem_runs.specs.Book.{holding}
 use Rattle.drv_table.specs.declared.content.Endpoint.{Endpoint}
 use Rattle.drv_table.specs.declared.content.Transfer.{Transfer}
-use Rattle.drv_table.specs.declared.rows.DriverRow.{DriverRow}
 use Rattle.drv_table.specs.DriverContent.{DriverContent}
 use Rattle.drv_table.specs.Harvests.{note_at}
 use Rattle.drv_table.specs.Parts.{Parts}
@@ -35,7 +34,7 @@ use Rattle.law_devices.specs.ring_requests.Windows.{Sent}
 use Rattle.claims_report.specs.Controls.{control_of}
 use Rattle.law_devices.proofs.Places.{set_beside}
 use Rattle.law_driver_ring.proofs.lemmas.told_harvests.Keeping.{spared_is_done}
-use Rattle.bus_world.specs.World.{World, driver_parts, with_parts}
+use Rattle.bus_world.specs.World.{World, driver_parts}
 use Rattle.law_world.specs.steps.Streaming.{Streams, Standing}
 use Rattle.claims_world.specs.Requests.{wired, Windows, numbers_of}
 use Rattle.law_reports.specs.requests.driver_requests.Requests.{IsOfTransfer, IsLaidOut}
@@ -48,11 +47,8 @@ use Rattle.law_reports.specs.requests.Records.{AreRecords}
 use Rattle.law_reports.proofs.lemmas.requests.Rows.{row_keeps_records}
 use Rattle.law_reports.specs.requests.Telling.{IsTelling}
 use Rattle.law_reports.proofs.lemmas.requests.Telling.{quiet_row_keeps_telling}
-use Rattle.law_world.proofs.lemmas.streams.Returning.{transfer, endpoint, returning}
-use Rattle.law_world.proofs.lemmas.streams.Releasing.{standing, whole_released}
-use Rattle.law_reports.specs.requests.Asking.{Sides, Asking, left_with, has_left, next_with, HasCourse, IsMetControl, IsReadTo, IsAskingWorld, HasAskingWorld, AsksIn}
-use Rattle.law_reports.specs.requests.Rows.{ReleaseKeepsAsking}
-use Rattle.law_reports.proofs.lemmas.requests.Has.{asking_of}
+use Rattle.law_world.proofs.lemmas.streams.Returning.{transfer, endpoint}
+use Rattle.law_reports.specs.requests.Asking.{Sides, Asking, left_with, has_left, next_with, HasCourse, IsMetControl, IsReadTo, IsAskingWorld, AsksIn}
 use Rattle.law_reports.proofs.lemmas.requests.Leaving.{idle_quiet, same_endpoint, RowLeaves, LinesLeave, each_still, world_left}
 use Rattle.law_reports.proofs.lemmas.requests.Beside.{HasOwner, owner_of}
 use Rattle.law_reports.proofs.lemmas.requests.Missed.{release_misses_none}
@@ -63,7 +59,6 @@ use Rattle.law_queues.proofs.lemmas.released_queues.Staying.{release_stays}
 use Rattle.law_driver_ring.specs.fed_queues.Places.{IsMet}
 use Rattle.law_driver.proofs.lemmas.chained_transfers.Holding.{held_alive}
 use Rattle.law_reports.specs.requests.Footing.{IsFooting}
-use Rattle.law_reports.proofs.lemmas.requests.Footing.{footing}
 use Rattle.drv_table.specs.declared.content.Command.{Command}
 use Rattle.drv_table.specs.declared.rows.DriverRow.TheVariants as rows
 use Rattle.drv_table.specs.declared.content.Command.TheVariants as unfinished
@@ -346,10 +341,3 @@ module _ (g : Sides) (fixed : Fixed) (member : ℕ → Bool) (x : Streams) (s : 
   pub released_asks : AsksIn g member now s.hand (record { courses = a.courses; numbers = a.numbers }) v asks (after_driver_row (rows.ReleaseTransfer t) (driver_parts w)).driver (after_driver_row (rows.ReleaseTransfer t) (driver_parts w)).memory
       (wired fixed w)
   released_asks = subst (λ (q : Parts). AsksIn g member now s.hand (record { courses = a.courses; numbers = a.numbers }) v asks q.driver q.memory (wired fixed w)) (sym row_is) world
-
-pub release_keeps_asking : ReleaseKeepsAsking
-release_keeps_asking g fixed takes member x s a v asks w t row head k z =
-    subst (λ (r : DriverRow). HasAskingWorld g fixed takes x.stream x.packets v asks (with_parts w (after_driver_row r (driver_parts w)))) (sym row)
-    (asking_of g fixed takes member x (standing fixed takes member x s w t row k) (record { courses = a.courses; numbers = a.numbers }) v asks (with_parts w (after_driver_row (rows.ReleaseTransfer t) (driver_parts w)))
-    (whole_released fixed takes member x s w t row k)
-    (released_asks g fixed member x s a v asks w (footing fixed takes member x s w k head) z t (transfer fixed takes member x s w t row k) (endpoint fixed takes member x s w t row k) (returning fixed takes member x s w t row k)) head)

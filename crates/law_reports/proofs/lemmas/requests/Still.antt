@@ -1,5 +1,5 @@
 -- Rows of the driver that store no word and read no token leave the requests of a world as they must stand.
-use Rattle.std.proofs.Common.{◌≡◌, ℕ, ◌*◌, Bool, true, false, not, ◌&&◌, List, [], ◌++◌, slice_get, Option, Some, None, refl, sym, subst, ◌∙◌}
+use Rattle.std.proofs.Common.{[], ◌≡◌, ℕ, ◌*◌, Bool, true, false, not, ◌&&◌, List, ◌++◌, slice_get, Option, Some, None, refl, sym, subst, ◌∙◌}
 use Rattle.std.proofs.lemmas.Bool.{false≢true}
 use Rattle.bus_wire.specs.Bus.{Fixed}
 use Rattle.op_registers.specs.RegisterFile.{RegisterFile}
@@ -15,24 +15,20 @@ use Rattle.drv_table.specs.declared.content.Turn.TheVariants as turns
 use Rattle.drv_table.specs.declared.rows.DriverRow.{DriverRow}
 use Rattle.drv_table.specs.declared.rows.DriverRow.TheVariants as rows
 use Rattle.drv_table.specs.DriverContent.{DriverContent}
-use Rattle.drv_table.specs.Rows.{driver_row, after_driver_row}
+use Rattle.drv_table.specs.Rows.{after_driver_row}
 use Rattle.drv_table.specs.Leaving.{doorbell_command, bell_after}
 use Rattle.law_driver.specs.run_owners.Due.{IsDue}
-use Rattle.law_driver.proofs.lemmas.run_owners.Reasons.{each_event_is_due}
 use Rattle.law_queues.specs.leaving_drivers.Before.{NearSame}
 use Rattle.law_queues.proofs.lemmas.leaving_drivers.Leaving.{bell_is_as_before, status_is_as_before, frame_is_as_before}
 use Rattle.claims_report.specs.Requests.{Request}
 use Rattle.law_reports.specs.requests.driver_requests.Rows.{KeepsRequests}
-use Rattle.bus_world.specs.World.{World, driver_parts, with_parts, driver_next}
+use Rattle.bus_world.specs.World.{World, driver_parts, with_parts}
 use Rattle.law_world.specs.steps.Streaming.{Standing}
 use Rattle.claims_world.specs.Requests.{Windows}
 use Rattle.law_world.specs.streams.FeedingLaws.{is_still}
 use Rattle.law_reports.specs.requests.Records.{AreRecords}
 use Rattle.law_reports.proofs.lemmas.requests.Rows.{accepted_keeps_records}
-use Rattle.law_world.proofs.lemmas.streams.Still.{whole_still}
 use Rattle.law_reports.specs.requests.Asking.{Sides, Asking, has_left, left_with, IsPublishingBy, IsMetControl, IsAskingWorld}
-use Rattle.law_reports.specs.requests.AskingLaws.{StillKeepsAsking}
-use Rattle.law_reports.proofs.lemmas.requests.Has.{asking_of}
 use Rattle.law_reports.proofs.lemmas.requests.Missed.{idle_misses}
 use Rattle.law_reports.specs.requests.Courses.{have_queues}
 
@@ -121,10 +117,3 @@ module _ (g : Sides) (fixed : Fixed) (member : ℕ → Bool) (s : Standing) (a :
       w.registers due.0 (frame_is_as_before (driver_parts w) n due.0).1
   still_row rows.Rest due still = q
   still_row _ due still = absurd (false≢true still)
-
-  pub asking_still : is_still (driver_row (driver_parts w)) ≡ true → IsAskingWorld g fixed member s a v asks (driver_next w)
-  asking_still still = still_row (driver_row (driver_parts w)) (each_event_is_due (driver_parts w)) still
-
-pub still_keeps_asking : StillKeepsAsking
-still_keeps_asking g fixed takes member x s a v asks w still k ring q =
-    asking_of g fixed takes member x s a v asks (driver_next w) (whole_still fixed takes member x s w still k) (asking_still g fixed member s a v asks w q still) ring

@@ -1,33 +1,26 @@
 -- Requests stand as they must where a get, a put or a request is accepted, and where an endpoint is cancelled.
-use Rattle.std.proofs.Common.{◌≡◌, ℕ, ◌<◌, Bool, Result, Ok, sym, subst, true, false, List, ◌++◌, refl}
+use Rattle.std.proofs.Common.{◌≡◌, ℕ, ◌<◌, Bool, Ok, true, false, List, ◌++◌, refl}
 use Rattle.law_common.proofs.Lists.{all_joined}
 use Rattle.usb_base.specs.declared.commands.Cmd.{Cmd}
 use Rattle.usb_base.specs.declared.endpoints.EpName.{EpName}
-use Rattle.usb_base.specs.declared.reports.OfferError.{OfferError}
 use Rattle.bus_wire.specs.Bus.{Fixed}
 use Rattle.law_scripts.specs.byte_answers.Bytes.{IsByteCommand}
 use Rattle.drv_table.specs.Accepting.{Offered}
-use Rattle.drv_table.specs.Offers.{offered, IsOffered}
-use Rattle.law_driver.specs.run_owners.Accepts.{Cancels}
+use Rattle.drv_table.specs.Offers.{offered}
 use Rattle.law_driver.specs.chained_transfers.Accepted.{IsAsked}
 use Rattle.law_driver.proofs.lemmas.chained_transfers.Accepting.{asynchronous_command_is_accepted}
 use Rattle.claims_report.specs.Requests.{Request}
-use Rattle.bus_world.specs.World.{World, name_in, commanded_by, commanded}
+use Rattle.bus_world.specs.World.{World, name_in, commanded_by}
 use Rattle.law_world.specs.steps.Streaming.{Streams, Standing}
 use Rattle.claims_world.specs.Requests.{Windows, asks_then, wired}
-use Rattle.law_world.specs.streams.Whole.{IsWhole}
-use Rattle.law_world.proofs.lemmas.streams.Commanding.{whole_commanded}
-use Rattle.law_reports.specs.requests.Asking.{Sides, Asking, IsAskingWorld, AsksIn}
-use Rattle.law_reports.specs.requests.Commanding.{IsTransferCommand, TransferKeepsAsking, CancelKeepsAsking}
-use Rattle.law_reports.proofs.lemmas.requests.Cancelling.{cancelled_asks}
+use Rattle.law_reports.specs.requests.Asking.{Sides, Asking, IsAskingWorld}
+use Rattle.law_reports.specs.requests.Commanding.{IsTransferCommand}
 use Rattle.law_reports.proofs.lemmas.requests.Commanding.{moved_asks, later, requested_asks, other_asks}
-use Rattle.law_reports.proofs.lemmas.requests.Has.{asking_of}
 use Rattle.law_reports.proofs.lemmas.requests.Requested.{TakesRequest, request_taken}
 use Rattle.std.specs.List.{AllByRecursion}
 use Rattle.claims_driver.specs.LentRuns.{AreLent}
 use Rattle.law_request.specs.Windows.{IsRequest}
 use Rattle.law_reports.specs.requests.Footing.{IsFooting}
-use Rattle.law_reports.proofs.lemmas.requests.Footing.{footing}
 use Rattle.usb_base.specs.declared.commands.Cmd.TheVariants as commands
 
 pub record AsksThen (g : Sides) (fixed : Fixed) (member : ℕ → Bool) (s : Standing) (v : Windows) (now : ℕ → Request) (w : World) : Type 0 where
@@ -68,32 +61,3 @@ module _ (g : Sides) (fixed : Fixed) (member : ℕ → Bool) (x : Streams) (s : 
       let t : TakesRequest w.driver w.memory o setup more = request_taken w.driver w.memory name setup more o k.turns.asynchronous is in
       requests name setup more fits (all_joined (λ (b : ℕ). b < 256) setup more bytes.0 bytes.1) t (g.asks t.transfers.endpoint.desc) refl
   by_command _ fits bytes is = absurd fits
-
-  pub asks_offered : (cmd : Cmd) → IsTransferCommand cmd → IsByteCommand cmd → offered w.driver w.memory cmd ≡ Ok o
-      → AsksThen g fixed member s v (asks_then w.driver cmd asks) (commanded w line cmd)
-  asks_offered cmd fits bytes is =
-      subst (λ (p : Result Offered OfferError). AsksThen g fixed member s v (asks_then w.driver cmd asks) (commanded_by w line (name_in cmd) p)) (sym is) (by_command cmd fits bytes is)
-
-module _ (fixed : Fixed) (takes : ℕ → ℕ → Bool) (member : ℕ → Bool) (x : Streams) (s : Standing) (w : World) (line : ℕ)
-    (k : IsWhole fixed takes member x s w) where
-  whole_then : (cmd : Cmd) → IsTransferCommand cmd → IsOffered w.driver.room cmd → IsWhole fixed takes member x s (commanded w line cmd)
-  whole_then (commands.Get name len by) fits room = whole_commanded fixed takes member x s w line (commands.Get name len by) tt (λ p is. tt) tt tt room k
-  whole_then (commands.Put name data_bytes by) fits room = whole_commanded fixed takes member x s w line (commands.Put name data_bytes by) tt (λ p is. tt) tt tt room k
-  whole_then (commands.Control name setup more) fits room = whole_commanded fixed takes member x s w line (commands.Control name setup more) tt (λ p is. tt) tt tt room k
-  whole_then _ fits room = absurd fits
-
-pub transfer_keeps_asking : TransferKeepsAsking
-transfer_keeps_asking g fixed takes member x s a v asks w line cmd o fits bytes room is k head world =
-    let then_asks = asks_offered g fixed member x s a v asks w line o (footing fixed takes member x s w k head) k.feeding.working.place.lent world cmd fits bytes is in
-    asking_of g fixed takes member x s then_asks.asking v (asks_then w.driver cmd asks) (commanded w line cmd) (whole_then fixed takes member x s w line k cmd fits room) then_asks.world head
-
-pub cancel_keeps_asking : CancelKeepsAsking
-cancel_keeps_asking g fixed takes member x s a v asks w line name o room is k head world =
-    let why : Cancels w.driver w.memory o =
-    asynchronous_command_is_accepted w.driver w.memory (commands.Cancel name) o k.feeding.turns.asynchronous tt is in
-    let then_asks : AsksIn g member s.parts s.hand a v asks o.driver o.memory (wired fixed w) =
-    subst (λ (f : Offered). AsksIn g member s.parts s.hand a v asks f.driver f.memory (wired fixed w)) (sym why.is)
-    (cancelled_asks g member s.parts s.hand a v asks w.driver w.memory (wired fixed w) world k.feeding.turns.asynchronous why.number why.endpoint why.idle why.here why.fresh) in
-    let given : IsAskingWorld g fixed member s a v asks (commanded w line (commands.Cancel name)) =
-    subst (λ (p : Result Offered OfferError). IsAskingWorld g fixed member s a v asks (commanded_by w line name p)) (sym is) then_asks in
-    asking_of g fixed takes member x s a v asks (commanded w line (commands.Cancel name)) (whole_commanded fixed takes member x s w line (commands.Cancel name) tt (λ p offer. tt) tt tt room k) given head

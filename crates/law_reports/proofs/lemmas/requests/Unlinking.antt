@@ -1,5 +1,5 @@
 -- The store by which a cancelled endpoint's queue head leaves the ring leaves the queues of all control endpoints as they stand: the walk may still meet it.
-use Rattle.std.proofs.Common.{◌≡◌, ◌≢◌, ℕ, ◌*◌, ◌||◌, ◌&&◌, not, ◌++◌, Bool, true, false, [], ◌∷◌, slice_get, Option, Some, None, ap, refl, sym, subst, ◌∙◌, ⊎_elim}
+use Rattle.std.proofs.Common.{[], ◌≡◌, ◌≢◌, ℕ, ◌*◌, ◌||◌, ◌&&◌, not, ◌++◌, Bool, true, false, ◌∷◌, slice_get, Option, Some, None, ap, refl, sym, subst, ◌∙◌, ⊎_elim}
 use Rattle.std.proofs.lemmas.Bool.{cases_eq, false≢true}
 use Rattle.std.proofs.lemmas.Option.{same_Some}
 use Rattle.law_reports.proofs.Common.{regone}
@@ -21,7 +21,7 @@ use Rattle.law_driver_ring.proofs.lemmas.told_harvests.Keeping.{spared_is_done}
 use Rattle.law_world.specs.steps.unlinked_streams.Unlinks.{IsAtUnlink, driver_then, IsUnlinked}
 use Rattle.law_world.proofs.lemmas.steps.lemmas.unlinked_streams.Passing.{unlink_row}
 use Rattle.law_world.proofs.lemmas.steps.lemmas.unlinked_streams.Streams.{unlink_spares_heads, unlink_spares_elements, unlink_spares_hand}
-use Rattle.bus_world.specs.World.{World, driver_parts, driver_next}
+use Rattle.bus_world.specs.World.{World, driver_parts}
 use Rattle.law_world.specs.steps.Streaming.{Standing}
 use Rattle.claims_world.specs.Requests.{wired, Windows, opens}
 use Rattle.law_reports.specs.requests.driver_requests.Rows.{given_by, KeepsEndpoint}
@@ -30,12 +30,7 @@ use Rattle.law_reports.proofs.lemmas.requests.Writing.{link_spares}
 use Rattle.law_reports.specs.requests.Records.{AreRecords}
 use Rattle.law_reports.proofs.lemmas.requests.Rows.{row_keeps_records}
 use Rattle.law_world.specs.streams.Leaving.{unlinked}
-use Rattle.law_world.specs.streams.Tails.{IsUnderWay}
-use Rattle.law_world.proofs.lemmas.streams.Unlinking.{unlink_finds}
-use Rattle.law_world.proofs.lemmas.streams.LeavingUnlinked.{unlink_whole}
 use Rattle.law_reports.specs.requests.Asking.{Sides, Asking, left_with, has_left, IsMetControl, IsReadTo, IsAskingWorld, AsksIn}
-use Rattle.law_reports.specs.requests.Rows.{UnlinkKeepsAsking}
-use Rattle.law_reports.proofs.lemmas.requests.Has.{asking_of}
 use Rattle.law_reports.proofs.lemmas.requests.Leaving.{idle_quiet, unlink_quiet, WasEndpoint, IsEndpointStill, RowLeaves, was_met, each_still, world_left}
 use Rattle.law_reports.proofs.lemmas.requests.Missed.{writing_misses_none, linked_unmissed}
 use Rattle.law_structures.specs.lent_structures.Structures.{QueueHead}
@@ -177,10 +172,3 @@ module _ (g : Sides) (fixed : Fixed) (member : ℕ → Bool) (s : Standing) (a :
       (writing_misses_none (have_queues a.courses) s.parts (32 * at.before) (32 * at.before) (QueueHead (record at.queue { link = to_queue_head at.after })) (λ on. z.unmissed.structures.heads (32 * at.before) at.queue on at.head)
       z.unmissed.structures)
       (linked_unmissed (have_queues a.courses) (32 * at.before) (to_queue_head at.after) s.hand z.unmissed.in_hand) stand recorded (each_still g fixed member s a v asks w parts_now leaves z) reads
-
-pub unlink_keeps_asking : UnlinkKeepsAsking
-unlink_keeps_asking g fixed takes member x s a v asks w e before link command head k z =
-    let at : IsAtUnlink w.driver member s.parts = unlink_finds fixed member x s w e before link command (subst (λ (c : _). IsUnderWay w.driver w.memory member s.parts c) command k.under_way) k.feeding in
-    asking_of g fixed takes member x (unlinked s at) (record { courses = a.courses; numbers = a.numbers }) v asks (driver_next w) (unlink_whole fixed takes member x s w at k)
-    (subst (λ (c : DriverContent). AsksIn g member (unlinked s at).parts (unlinked s at).hand (record { courses = a.courses; numbers = a.numbers }) v asks c (driver_next w).memory (wired fixed w))
-    (sym (unlink_row (driver_parts w) member s.parts at).driver) (unlinked_asks g fixed member s a v asks w z at (driver_next w).memory)) head

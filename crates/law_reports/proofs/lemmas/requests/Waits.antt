@@ -4,7 +4,6 @@ use Rattle.law_queues.proofs.Common.{after_is}
 use Rattle.bus_wire.specs.Bus.{Fixed}
 use Rattle.drv_table.specs.declared.content.Command.{Command}
 use Rattle.drv_table.specs.declared.content.Endpoint.{Endpoint}
-use Rattle.drv_table.specs.declared.rows.DriverRow.{DriverRow}
 use Rattle.drv_table.specs.declared.rows.DriverRow.TheVariants as rows
 use Rattle.drv_table.specs.declared.rows.Found.TheVariants as founds
 use Rattle.drv_table.specs.DriverContent.{DriverContent}
@@ -12,16 +11,13 @@ use Rattle.drv_table.specs.Rows.{after_driver_row}
 use Rattle.drv_table.specs.Harvesting.{served}
 use Rattle.law_driver.specs.run_owners.Due.{IsHarvestDue}
 use Rattle.claims_report.specs.Requests.{Request}
-use Rattle.bus_world.specs.World.{World, driver_parts, driver_next, with_parts}
+use Rattle.bus_world.specs.World.{World, driver_parts}
 use Rattle.law_world.specs.steps.Streaming.{Standing}
 use Rattle.claims_world.specs.Requests.{Windows}
 use Rattle.law_reports.specs.requests.driver_requests.Rows.{KeepsRequests}
 use Rattle.law_reports.specs.requests.Records.{AreRecords}
 use Rattle.law_reports.proofs.lemmas.requests.Rows.{accepted_keeps_records}
-use Rattle.law_world.proofs.lemmas.streams.Leaving.{due, leaves, whole_harvested}
 use Rattle.law_reports.specs.requests.Asking.{Sides, Asking, has_left, IsPublishingBy, IsMetControl, IsAskingWorld}
-use Rattle.law_reports.specs.requests.Waits.{WaitKeepsAsking}
-use Rattle.law_reports.proofs.lemmas.requests.Has.{asking_of}
 use Rattle.law_reports.proofs.lemmas.requests.Missed.{idle_misses}
 use Rattle.law_reports.specs.requests.Courses.{have_queues}
 
@@ -84,11 +80,3 @@ module _ (g : Sides) (fixed : Fixed) (member : ℕ → Bool) (s : Standing) (a :
       let new_is : (after_driver_row (rows.Harvest e t founds.Active) (driver_parts w)).driver ≡ served w.driver e =
       after_is (driver_parts w) e t founds.Active reads ∙ ap (λ (b : Bool). if b then served w.driver e else w.driver) reads.waits in
       subst (λ (d : DriverContent). IsAskingWorld g fixed member s a v asks (record w { driver = d })) (sym new_is) (asking_served g fixed member s a v asks w q reads.idle e s.out s.reported)
-
-pub wait_keeps_asking : WaitKeepsAsking
-wait_keeps_asking g fixed takes member x s a v asks w e t row head k q =
-    let l = leaves fixed takes member x s w e t founds.Active row k in
-    let after : Standing = record s { out = l.out; reported = l.reported } in
-    asking_of g fixed takes member x after a v asks (driver_next w) (whole_harvested fixed takes member x s w e t founds.Active row k l)
-    (subst (λ (r : DriverRow). IsAskingWorld g fixed member after a v asks (with_parts w (after_driver_row r (driver_parts w)))) (sym row)
-    (waits_asks g fixed member s a v asks w e t (due fixed takes member x s w e t founds.Active row k) q)) head

@@ -1,12 +1,12 @@
--- Bulk OUT endpoints below hubs in a world with endpoints of every kind (EHCI 1.0, 4.6 to 4.12; USB 2.0, 8.6, 11.14 and 11.17): host, hub
--- and device of each stand as they must, before it is opened, while its queue head is met, and once it left; and what is sent of each
--- begins what was put to it, with the packet that may be on its way, also behind the endpoint's end.
---     Spots                 by address and number: which OUT endpoints are bulk ones below a hub, at which translator of which hub; and
---                           the hubs of the script
+-- Bulk and interrupt OUT endpoints below hubs in a world with endpoints of every kind (EHCI 1.0, 4.6 to 4.12; USB 2.0, 8.6, 11.14, 11.17
+-- and 11.18): host, hub and device of each stand as they must, before it is opened, while its queue head is met, and once it left; and what
+-- is sent of each begins what was put to it, with the packet that may be on its way, also behind the endpoint's end.
+--     Spots                 by address and number: which OUT endpoints are ones with a stream below a hub, of which kind, at which
+--                           translator of which hub; and the hubs of the script
 --     IsSpot o d            the endpoint so described is at its spot
 --     AreSpots o d          so is each endpoint of a driver
 --     sent_in known next    what was sent of an endpoint: the bytes that the host knows to be taken, and the packet behind them
---     out_at addr ep        the key of an OUT endpoint
+--     out_at kind addr ep   the key of an OUT endpoint; its_key: of that at a spot
 --     IsUnsent .. addr ep   nothing was sent of it
 --     Within puts d addr ep bytes
 --                           these bytes begin what was put to the endpoint of this name
@@ -15,13 +15,13 @@
 --                           is In
 --     IsMetOut ..           one that is met: all three stand as they must
 --     AreInsRight s d       the active qTDs of each IN endpoint that is there are INs
---     OpensInRing d         a bulk endpoint is opened in the ring, and not in frames
 --     IsBehind fixed o s m puts w     all this of the world w
 --     HasBehind fixed x o puts w      .. for some standing, lines and queue heads
 use Rattle.std.specs.Prelude.{◌≡◌, ℕ, ◌*◌, Bool, true, false, List, [], ◌++◌, slice_get, Option, Some, None}
 use Rattle.std.specs.List.{concat}
 use Rattle.usb_base.specs.declared.endpoints.EpDesc.{EpDesc}
 use Rattle.usb_base.specs.declared.packets.Dir.TheVariants as Directions
+use Rattle.usb_base.specs.declared.packets.EpKind.{EpKind}
 use Rattle.usb_base.specs.declared.packets.EpKind.TheVariants as kinds
 use Rattle.usb_base.specs.declared.packets.Way.{Way}
 use Rattle.usb_base.specs.declared.packets.Way.TheVariants as ways
@@ -29,8 +29,7 @@ use Rattle.hub_keys.specs.declared.key.Key.{Key}
 use Rattle.hub_class.specs.HubContent.{HubContent}
 use Rattle.bus_wire.specs.Bus.{Wired, Fixed}
 use Rattle.claims_base.specs.Prefix.{IsPrefix}
-use Rattle.claims_world.specs.BelowStreams.{is_bulk_below}
-use Rattle.drv_table.specs.declared.content.Command.TheVariants as unfinished
+use Rattle.claims_world.specs.BelowStreams.{is_out_below}
 use Rattle.drv_table.specs.declared.content.Endpoint.{Endpoint}
 use Rattle.drv_table.specs.DriverContent.{DriverContent}
 use Rattle.law_driver.specs.queued_drivers.Queued.{queued_endpoint, queued}
@@ -45,7 +44,7 @@ use Rattle.law_world.specs.memory.Mixed.{Standing}
 use Rattle.bus_world.specs.World.{World}
 use Rattle.law_reports.specs.lines.Lined.{in_hand, Lines}
 use Rattle.law_reports.specs.pipes.Declared.{Sides}
-use Rattle.law_reports.specs.pipes.Piped.{Heads, asked_as, IsOpening, AreFresh, AreLeft, IsPiped}
+use Rattle.law_reports.specs.pipes.Piped.{Heads, asked_as, AreFresh, AreLeft, IsPiped}
 use Rattle.law_reports.specs.pipes.puts.Paid.{Pays}
 use Rattle.law_reports.specs.quiet.Errors.{PublishesLeft}
 
@@ -53,12 +52,21 @@ use Rattle.law_reports.specs.quiet.Errors.{PublishesLeft}
 
 pub record Spots : Type 0 where
   pub has : ℕ → ℕ → Bool
+  pub periodic : ℕ → ℕ → Bool  -- an interrupt endpoint, else a bulk one
   pub hub : ℕ → ℕ → ℕ  -- its place among the hubs
   pub place : ℕ → ℕ → ℕ  -- that of its translator
   pub hubs : List HubContent
 
+abbrev pub stream_kind : Bool → EpKind
+stream_kind true = kinds.Interrupt
+stream_kind false = kinds.Bulk
+
+abbrev pub kind_at : Spots → ℕ → ℕ → EpKind
+kind_at o addr ep = stream_kind (o.periodic addr ep)
+
 pub record IsOutSpot (o : Spots) (d : EpDesc) : Type 0 where
-  pub bulk : o.has d.name.addr d.name.num ≡ true → is_bulk_below d ≡ true
+  pub out : o.has d.name.addr d.name.num ≡ true → is_out_below d ≡ true
+  pub kind : o.has d.name.addr d.name.num ≡ true → d.kind ≡ kind_at o d.name.addr d.name.num
   pub hub : o.has d.name.addr d.name.num ≡ true
       → IsAtHub o.hubs (asked_as d).hub (asked_as d).port (o.hub d.name.addr d.name.num) (o.place d.name.addr d.name.num)
 
@@ -80,11 +88,14 @@ abbrev pub sent_in : List ℕ → Option (List ℕ) → List ℕ
 sent_in known None = known
 sent_in known (Some x) = known ++ x
 
-abbrev pub out_at : ℕ → ℕ → Key
-out_at addr ep = record { addr = addr; ep = ep; dir = Directions.Out; kind = kinds.Bulk }
+abbrev pub out_at : EpKind → ℕ → ℕ → Key
+out_at kind addr ep = record { addr = addr; ep = ep; dir = Directions.Out; kind = kind }
+
+abbrev pub its_key : Spots → ℕ → ℕ → Key
+its_key o addr ep = out_at (kind_at o addr ep) addr ep
 
 abbrev pub IsUnsent : Spots → Wired → ℕ → ℕ → Type 0
-IsUnsent o wire addr ep = OutSide (out_at addr ep) (o.hub addr ep) (o.place addr ep) wire false false [] None
+IsUnsent o wire addr ep = OutSide (its_key o addr ep) (o.hub addr ep) (o.place addr ep) wire false false [] None
 
 abbrev pub Within : (ℕ → List ℕ) → DriverContent → ℕ → ℕ → List ℕ → Type 0
 Within puts d addr ep bytes = (e : ℕ) (y : Endpoint) → slice_get d.endpoints e ≡ Some y → y.desc.name.way ≡ ways.Out
@@ -96,13 +107,13 @@ pub record HasLeft (o : Spots) (wire : Wired) (In : ℕ → ℕ → List ℕ →
   pub waiting : Bool
   pub known : List ℕ
   pub next : Option (List ℕ)
-  pub side : OutSide (out_at addr ep) (o.hub addr ep) (o.place addr ep) wire toggle waiting known next
+  pub side : OutSide (its_key o addr ep) (o.hub addr ep) (o.place addr ep) wire toggle waiting known next
   pub begins : IsPrefix bytes known
   pub within : In addr ep (sent_in known next)
 
 pub record IsMetOut (o : Spots) (wire : Wired) (known all : List ℕ) (s : Standing) (y : Endpoint) : Type 0 where
-  pub behind : IsOutBehind wire (o.hub y.desc.name.addr y.desc.name.num) (o.place y.desc.name.addr y.desc.name.num) known s.parts
-      (in_hand s) (32 * y.queue) (asked_as y.desc)
+  pub behind : IsOutBehind (kind_at o y.desc.name.addr y.desc.name.num) wire (o.hub y.desc.name.addr y.desc.name.num)
+      (o.place y.desc.name.addr y.desc.name.num) known s.parts (in_hand s) (32 * y.queue) (asked_as y.desc)
   pub within : IsPrefix (sent_in known behind.host.next) all
 
 -- ---- a world
@@ -111,14 +122,9 @@ abbrev pub AreInsRight : Standing → DriverContent → Type 0
 AreInsRight s d = (e : ℕ) (y : Endpoint) → slice_get d.endpoints e ≡ Some y → IsThere (queued d) (queued_endpoint y)
     → y.desc.name.way ≡ ways.In → IsIn (s.parts (32 * y.queue))
 
-abbrev pub OpensInRing : DriverContent → Type 0
-OpensInRing d = (e : ℕ) (y : Endpoint) → slice_get d.endpoints e ≡ Some y → y.desc.kind ≡ kinds.Bulk → IsOpening d y
-    → d.command ≡ Some unfinished.Chain → ⊥
-
 pub record IsBehind (fixed : Fixed) (o : Spots) (s : Standing) (m : Lines) (puts : ℕ → List ℕ) (w : World) : Type 0 where
   pub ins : AreInsRight s w.driver
   pub first : PublishesLeft w.driver.made w.driver.command
-  pub ring : OpensInRing w.driver
   pub spots : AreSpots o w.driver
   -- hubs keep their addresses and their translators
   pub hubs : (hub port i place : ℕ) → IsAtHub o.hubs hub port i place → IsAtHub (wired fixed w).bus.hubs hub port i place

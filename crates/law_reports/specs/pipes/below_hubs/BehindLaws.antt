@@ -1,10 +1,13 @@
--- Laws of bulk OUT endpoints below hubs, whatever else is open (EHCI 1.0, 4.6 to 4.12; USB 2.0, 8.6, 11.14 and 11.17).
+-- Laws of bulk and interrupt OUT endpoints below hubs, whatever else is open (EHCI 1.0, 4.6 to 4.12; USB 2.0, 8.6, 11.14 and 11.17).
 --     OpensSpot o cmd          an endpoint that the command opens is at its spot
+--     WorldFindsNoneTold       where the walk of the frames comes to a start-split, the pipeline of its hub has nothing of its key that was
+--                              told
 --     ControllerKeepsBehind, DriverKeepsBehind, CommandKeepsBehind
 --                              each event and each command leaves them as they must stand
 --     spots_of s               the spots of a script: where its lines open such endpoints
 --     OpensSpots s             each endpoint that a line of the script opens is at its spot
 --     OpensUnsent s            before the first line no hub has anything of them, and nothing was sent
+--     TextsFindNoneTold        no start-split of a script that a text spells finds what was told
 --     TextsOpenSpots           so it is in each script that a text spells
 --     NewWorldIsBehind         so they stand before the first line
 --     ScriptsAreBehind, TextsAreBehind      .. and at each moment of each script
@@ -21,10 +24,16 @@ use Rattle.script_types.specs.declared.scripts.Line.TheVariants as lines
 use Rattle.script_types.specs.declared.scripts.Script.{Script}
 use Rattle.script_fits.specs.Fits.{IsFit}
 use Rattle.script_text.specs.Faults.{Spells}
-use Rattle.bus_wire.specs.Bus.{Fixed, fixed_of, opening_bus, opening_wired}
+use Rattle.bus_wire.specs.Bus.{Fixed, Wired, fixed_of, opening_bus, opening_wired}
 use Rattle.claims_world.specs.BelowStreams.{is_claimed_below}
+use Rattle.drv_periodic_table.specs.Periodic.{is_periodic}
 use Rattle.drv_table.specs.Offers.{IsOffered}
+use Rattle.periodic_walk.specs.declared.state.HeldQueue.{HeldQueue}
 use Rattle.law_scripts.specs.byte_answers.Bytes.{IsByteScript, IsByteCommand}
+use Rattle.law_below_hubs.specs.HostOuts.{FindsNoneTold}
+use Rattle.law_below_hubs.specs.Splits.{IsAtHub}
+use Rattle.law_microframes.specs.translators.Fresh.{IsStarting, key_started}
+use Rattle.law_world.specs.steps.Streaming.{wired}
 use Rattle.law_world.specs.steps.receiving_runs.Runs.{KindOfLine}
 use Rattle.law_world.specs.streams.put_laws.HeldPuts.{puts_then}
 use Rattle.law_world.specs.streams.put_laws.TakenPuts.{no_puts, puts_at}
@@ -41,9 +50,14 @@ abbrev pub OpensSpot : Spots → Cmd → Type 0
 OpensSpot o (commands.OpenEp d) = IsSpot o d
 OpensSpot o _ = Unit {0}
 
+abbrev pub WorldFindsNoneTold : Wired → World → Type 0
+WorldFindsNoneTold wire w = (h : HeldQueue) → IsStarting w h → (i place : ℕ)
+    → IsAtHub wire.bus.hubs h.copy.queue_head.hub h.copy.queue_head.port i place
+    → FindsNoneTold (key_started h.copy.queue_head) i place wire
+
 abbrev pub ControllerKeepsBehind : Type 0
-ControllerKeepsBehind = (fixed : Fixed) (x : Sides) (o : Spots) (puts : ℕ → List ℕ) (w : World) → HasBehind fixed x o puts w
-    → HasBehind fixed x o puts (controller_next fixed w)
+ControllerKeepsBehind = (fixed : Fixed) (x : Sides) (o : Spots) (puts : ℕ → List ℕ) (w : World) → WorldFindsNoneTold (wired fixed w) w
+    → HasBehind fixed x o puts w → HasBehind fixed x o puts (controller_next fixed w)
 
 abbrev pub DriverKeepsBehind : Type 0
 DriverKeepsBehind = (fixed : Fixed) (x : Sides) (o : Spots) (puts : ℕ → List ℕ) (w : World) → HasBehind fixed x o puts w
@@ -56,7 +70,7 @@ CommandKeepsBehind = (fixed : Fixed) (x : Sides) (o : Spots) (puts : ℕ → Lis
 
 -- ---- a script
 
--- it opens a bulk OUT endpoint below a hub that has this address and number
+-- it opens an OUT endpoint with a stream below a hub that has this address and number
 abbrev pub opens_below : Script → ℕ → ℕ → Line → Bool
 opens_below s addr ep (lines.Command (commands.OpenEp d)) = is_claimed_below s d && (d.name.addr == addr && d.name.num == ep)
 opens_below s addr ep _ = false
@@ -83,6 +97,7 @@ place_of s (Some hub) port = option_map_or (translator_of port) (find (λ h. h.a
 abbrev pub spots_of : Script → Spots
 spots_of s = record {
   has = λ addr ep. is_some (desc_below s addr ep);
+  periodic = λ addr ep. option_map_or (λ d. is_periodic d.kind) (desc_below s addr ep) false;
   hub = λ addr ep. option_map_or (λ d. hub_of s d.hub) (desc_below s addr ep) 0;
   place = λ addr ep. option_map_or (λ d. place_of s d.hub d.port) (desc_below s addr ep) 0;
   hubs = (opening_bus s).hubs;
@@ -101,8 +116,14 @@ abbrev pub NewWorldIsBehind : Type 0
 NewWorldIsBehind = (s : Script) → IsFit s → IsByteScript s → OpensUnsent s
     → HasBehind (fixed_of s) (sides_of s) (spots_of s) no_puts (opening_world s)
 
+-- so it is at each moment of each script that a text spells
+abbrev pub TextsFindNoneTold : Type 0
+TextsFindNoneTold = (text : List ℕ) (s : Script) → Spells text s → (k : ℕ)
+    → WorldFindsNoneTold (wired (fixed_of s) (moment s k).world) (moment s k).world
+
 abbrev pub ScriptsAreBehind : Type 0
-ScriptsAreBehind = (s : Script) → IsFit s → IsByteScript s → FitsMixed s → DeclaresOpens s → OpensSpots s → OpensUnsent s → (k : ℕ)
+ScriptsAreBehind = (s : Script) → IsFit s → IsByteScript s → FitsMixed s → DeclaresOpens s → OpensSpots s → OpensUnsent s
+    → ((k : ℕ) → WorldFindsNoneTold (wired (fixed_of s) (moment s k).world) (moment s k).world) → (k : ℕ)
     → HasBehind (fixed_of s) (sides_of s) (spots_of s) (puts_at s k) (moment s k).world
 
 abbrev pub TextsAreBehind : Type 0

@@ -15,6 +15,7 @@ use Rattle.std.specs.List.{concat}
 use Rattle.usb_base.specs.declared.endpoints.EpDesc.{EpDesc}
 use Rattle.usb_base.specs.declared.packets.Dir.TheVariants as Directions
 use Rattle.usb_base.specs.declared.packets.Way.{Way}
+use Rattle.usb_base.specs.declared.packets.EpKind.TheVariants as kinds
 use Rattle.usb_base.specs.declared.packets.Way.TheVariants as ways
 use Rattle.hub_class.specs.HubContent.{HubContent}
 use Rattle.bus_wire.specs.Bus.{Wired, Fixed}
@@ -60,7 +61,7 @@ AreInlets v d = (e : ℕ) (y : Endpoint) → slice_get d.endpoints e ≡ Some y 
 
 abbrev pub Unmoved : Inlet → Wired → Type 0
 Unmoved v wire = (going : Bool)
-    → InSide v.packets (told_key Directions.In (asked_as v.desc)) v.hub v.place wire false false going []
+    → InSide v.packets (told_key kinds.Bulk Directions.In (asked_as v.desc)) v.hub v.place wire false false going []
 
 abbrev pub Begins : Inlet → List ℕ → Type 0
 Begins v bytes = IsPrefix bytes (concat v.packets)

@@ -37,7 +37,7 @@ use Rattle.law_reports.specs.pipes.Declared.{Sides, sides_of}
 use Rattle.law_reports.specs.pipes.Piped.{asked_as}
 use Rattle.law_reports.specs.pipes.PipedLaws.{OpensDeclared}
 use Rattle.law_reports.specs.pipes.below_hubs.Behind.{Spots}
-use Rattle.law_reports.specs.pipes.below_hubs.BehindLaws.{OpensSpot, hub_of, place_of, spots_of}
+use Rattle.law_reports.specs.pipes.below_hubs.BehindLaws.{WorldFindsNoneTold, OpensSpot, hub_of, place_of, spots_of}
 use Rattle.law_reports.specs.pipes.below_hubs.Inward.{Inlet, IsInletBy, Unmoved, IsSpared, HasInward}
 
 abbrev pub SparedHubsKeepKeys : Type 0
@@ -49,7 +49,7 @@ OpensInlet v _ = Unit {0}
 
 abbrev pub ControllerKeepsInward : Type 0
 ControllerKeepsInward = (fixed : Fixed) (x : Sides) (o : Spots) (v : Inlet) (puts : ℕ → List ℕ) (w : World) → IsSpared v (wired fixed w)
-    → HasInward fixed x o v puts w → HasInward fixed x o v puts (controller_next fixed w)
+    → WorldFindsNoneTold (wired fixed w) w → HasInward fixed x o v puts w → HasInward fixed x o v puts (controller_next fixed w)
 
 abbrev pub DriverKeepsInward : Type 0
 DriverKeepsInward = (fixed : Fixed) (x : Sides) (o : Spots) (v : Inlet) (puts : ℕ → List ℕ) (w : World) → HasInward fixed x o v puts w

@@ -1,6 +1,7 @@
 -- A printer and a scanner at full speed behind a hub of four ports, for worked rows.
 --     page hub port     its bulk OUT endpoint, as a line may describe it
 --     printer           the script: it opens the endpoint, puts two packets to it, and clears the hub's buffer in between
+--     keys hub port, board     an interrupt OUT endpoint in its place, and a script that opens it and puts a byte to it
 --     sheet hub port, scanner     the bulk IN endpoint of a scanner, which has two packets; and the script that reads both
 --     asks_hub          .. and opens endpoint 0 of the hub
 use Rattle.std.specs.Prelude.{ℕ, false, [], ◌∷◌, Option, Some, None}
@@ -41,6 +42,19 @@ printer = record beside_split {
   } ∷ [];
   endpoints = page_name ∷ [];
   lines = (5, lines.Command (commands.OpenEp (page (Some 9) 4))) ∷ (6, lines.Command (commands.Put page_name (7 ∷ 8 ∷ []) 512)) ∷ [];
+}
+
+abbrev pub keys : Option ℕ → ℕ → EpDesc
+keys hub port = record (page hub port) { kind = kinds.Interrupt; period = 8 }
+
+abbrev pub board : Script
+board = record printer {
+  devices = record {
+    addr = 3;
+    speed = speeds.Full;
+    eps = record { desc = keys (Some 9) 4; items = []; room = 0; stuff = 0; clears = 0 } ∷ [];
+  } ∷ [];
+  lines = (5, lines.Command (commands.OpenEp (keys (Some 9) 4))) ∷ (6, lines.Command (commands.Put page_name (7 ∷ []) 512)) ∷ [];
 }
 
 abbrev pub sheet_name : EpName

@@ -1,9 +1,10 @@
--- A bulk endpoint below a hub at each step of a queue by which the driver goes on (EHCI 1.0, 3.5, 4.6, 4.8, 4.10 and 4.12): the host's
--- side, the packet that it sends next and the qTDs stay, and what is new begins with a start-split.
+-- An endpoint with a stream, below a hub, at each step of a queue by which the driver goes on (EHCI 1.0, 3.5, 4.6, 4.8, 4.10 and 4.12): the
+-- host's side, the packet that it sends next and the qTDs stay, and what is new begins with a start-split.
 --     PublishesStart d         the qTD of an unfinished command that publishes one begins with a start-split, once the others are lent
 --     StepKeepsOutBehind, StepKeepsInBehind
 --                              so host, hub and device stand as they must after each step, while the queue head is still met
 use Rattle.std.specs.Prelude.{◌≡◌, ℕ, ◌≤◌, Bool, true, false, List, Some}
+use Rattle.usb_base.specs.declared.packets.EpKind.{EpKind}
 use Rattle.bus_wire.specs.Bus.{Wired}
 use Rattle.qh_qtd.specs.declared.qtd.Qtd.{Qtd}
 use Rattle.qh_qtd.specs.Qtd.{qtd_words, IsQtdInRange}
@@ -24,11 +25,11 @@ PublishesStart d = (b : ℕ) (words : List ℕ) (t : Qtd) → d.command ≡ Some
 
 -- `outs` and `ins` are the queue heads of endpoints of a way, at whatever speed
 abbrev pub StepKeepsOutBehind : Type 0
-StepKeepsOutBehind = (sends takes : ℕ → ℕ → Bool) (ins outs : ℕ → Bool) (ends : ℕ → Told) (s t : Standing) (w new : World) (wire : Wired)
-    (i place : ℕ) (known : List ℕ) (n : ℕ) (x : Told) → IsMixedAt s w → QueueStep s w new t
+StepKeepsOutBehind = (kind : EpKind) (sends takes : ℕ → ℕ → Bool) (ins outs : ℕ → Bool) (ends : ℕ → Told) (s t : Standing)
+    (w new : World) (wire : Wired) (i place : ℕ) (known : List ℕ) (n : ℕ) (x : Told) → IsMixedAt s w → QueueStep s w new t
     → AreByWay (queued w.driver) sends takes ins outs ends → PublishesStart (queued w.driver) → outs n ≡ true → s.near n ≡ true
-    → t.near n ≡ true → (k : IsOutBehind wire i place known s.parts (in_hand s) n x)
-    → (b : IsOutBehind wire i place known t.parts (in_hand t) n x) × (b.host.next ≡ k.host.next)
+    → t.near n ≡ true → (k : IsOutBehind kind wire i place known s.parts (in_hand s) n x)
+    → (b : IsOutBehind kind wire i place known t.parts (in_hand t) n x) × (b.host.next ≡ k.host.next)
 
 abbrev pub StepKeepsInBehind : Type 0
 StepKeepsInBehind = (packets : List (List ℕ)) (sends takes : ℕ → ℕ → Bool) (ins outs : ℕ → Bool) (ends : ℕ → Told) (s t : Standing)

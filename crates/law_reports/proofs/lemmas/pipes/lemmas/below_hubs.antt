@@ -5,13 +5,14 @@ pub mod Asked
 pub mod Controlled
 pub mod Going
 pub mod Starting
+pub mod FoundNone
 pub mod BehindControlled
 pub mod InsSteps
-pub mod NewOuts
 pub mod BehindDriven
 pub mod BehindCommanded
 pub mod BelowTakers
 pub mod BelowTexts
+pub mod FreshStarts
 pub mod BehindMoments
 pub mod BelowReporting
 pub mod BelowKept

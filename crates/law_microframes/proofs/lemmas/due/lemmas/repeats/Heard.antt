@@ -58,12 +58,12 @@ row_word l ask inward false answer is on word none = absurd (false≢true on)
 
 -- ---- the translator
 
-served : (o : Option ℕ) (port : ℕ) (ts : Translators) (t : Translator) → place_of ts.multi port ≡ o
+pub served : (o : Option ℕ) (port : ℕ) (ts : Translators) (t : Translator) → place_of ts.multi port ≡ o
     → option_and_then (λ place. slice_get ts.all place) o ≡ Some t → (place : ℕ) × (slice_get ts.all place ≡ Some t)
 served None port ts t is e = absurd cc
 served (Some place) port ts t is e = (place, e)
 
-answer_is : (ask : Ask) (h : HubContent) (t : Translator) (hub port : ℕ) → ask.split ≡ Complete hub port → ask.kind ≡ Interrupt
+pub answer_is : (ask : Ask) (h : HubContent) (t : Translator) (hub port : ℕ) → ask.split ≡ Complete hub port → ask.kind ≡ Interrupt
     → translator_at port h.translators ≡ Some t
     → transact_reply ask h ≡ Piped.complete_answer (key_of ask) t.pipeline
 answer_is ask h t hub port split kind serves =
@@ -83,10 +83,10 @@ translator_word ask h t hub port split kind serves says =
 -- ---- the bus
 
 module _ (fixed : Fixed) (b : Bus) (ask : Ask) (out : List ℕ) (can : CanBeHeard fixed b ask) where
-  abbrev who : Answerer
+  abbrev pub who : Answerer
   who = Answerers.Translator can.translator.place (stuff_of can.seat.owner)
 
-  abbrev asked : Asked
+  abbrev pub asked : Asked
   asked = record { place = can.place; name = can.seat.name; packet = can.number.number; who = who }
 
   hears_is : hears b ask.split can.seat.owner ≡ who
@@ -98,7 +98,7 @@ module _ (fixed : Fixed) (b : Bus) (ask : Ask) (out : List ℕ) (can : CanBeHear
   abbrev with_who : Answerer → Option Asked
   with_who a = Some (record { place = can.place; name = can.seat.name; packet = can.number.number; who = a })
 
-  asked_is : asked_of fixed b ask ≡ Some asked
+  pub asked_is : asked_of fixed b ask ≡ Some asked
   asked_is =
       ap (λ (o : Option ℕ). option_and_then (asked_at fixed b ask.split) o) can.found
       ∙ ap (λ (o : Option Seat). option_and_then (λ seat. option_map (λ packet. record

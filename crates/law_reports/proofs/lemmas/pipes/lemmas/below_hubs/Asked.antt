@@ -1,8 +1,9 @@
 -- No other queue head that is met, and no isochronous descriptor, asks an endpoint below a hub in its direction; and none at all an
 -- endpoint that isn't met.
-use Rattle.std.proofs.Common.{◌≡◌, ◌≢◌, ℕ, ◌*◌, Bool, true, false, if◌then◌else◌, slice_get, Some, option_map}
+use Rattle.std.proofs.Common.{◌≡◌, ◌≢◌, ℕ, ◌+◌, ◌*◌, ◌≤◌, ◌==◌, ◌||◌, Bool, true, false, if◌then◌else◌, List, [], ◌∷◌, slice_get, Some}
+use Rattle.std.proofs.Common.{option_map}
 use Rattle.std.proofs.Common.{ap, refl, sym, subst, ◌∙◌, ⊎_elim, inl, inr, arith}
-use Rattle.std.proofs.lemmas.Bool.{false≢true}
+use Rattle.std.proofs.lemmas.Bool.{cases_Bool, eqb-true, eq-eqb, false≢true}
 use Rattle.std.proofs.lemmas.Option.{same_Some}
 use Rattle.usb_base.specs.declared.packets.Ask.{Ask}
 use Rattle.usb_base.specs.declared.packets.Dir.{Dir}
@@ -14,24 +15,30 @@ use Rattle.usb_base.specs.declared.packets.Way.{Way}
 use Rattle.usb_base.specs.declared.packets.Way.TheVariants as ways
 use Rattle.hub_keys.specs.Keys.{direction_of}
 use Rattle.bus_wire.specs.Bus.{Fixed}
+use Rattle.claims_report.specs.Streams.{has_stream}
 use Rattle.qh_qtd.specs.declared.qtd.Qtd.{Qtd}
-use Rattle.claims_driver.specs.Leaving.{HasOwners}
+use Rattle.claims_driver.specs.Leaving.{HasOwners, leaves_ring, times}
 use Rattle.claims_driver.specs.Owners.{EndpointRuns, Views, views_of, IsQueueIn, AreOwned, Owner, Head, QueueHead as QueueOf}
 use Rattle.drv_periodic_table.specs.Descriptors.{is_in}
 use Rattle.drv_table.specs.declared.content.Endpoint.{Endpoint}
+use Rattle.drv_table.specs.DriverContent.{DriverContent}
 use Rattle.drv_table.specs.Kinds.{is_iso}
 use Rattle.drv_table.specs.Words.{head_block}
+use Rattle.drv_periodic_table.specs.Periodic.{is_periodic}
+use Rattle.law_driver.specs.endpoint_lives.Lives.{is_one_of, may_meet}
 use Rattle.law_driver.specs.queued_drivers.Queued.{IsOfWay, queued}
+use Rattle.law_driver.proofs.Common.{not_in_ring, ring_queue}
+use Rattle.law_driver.proofs.lemmas.ring_members.Placed.{has_queue, queue_off_head}
 use Rattle.law_structures.specs.lent_structures.Structures.{Element}
 use Rattle.law_ring.specs.Told.{Endpoint as Told, HasEndpoint}
 use Rattle.law_frames.specs.FrameStreams.{AsksIso, IsIsoAsk, of_itd, of_sitd}
 use Rattle.law_frames.specs.Met.{AQueue}
 use Rattle.law_driver_ring.specs.Inventory.{sort_of, Sort, OfElement, IsDriverOwned, the_list, the_head, a_queue, a_dummy, a_piece}
 use Rattle.law_driver_ring.specs.Inventory.{a_buffer}
-use Rattle.law_driver_ring.specs.fed_queues.Places.{AreMet}
+use Rattle.law_driver_ring.specs.fed_queues.Places.{AreMet, HasHead}
 use Rattle.law_descriptors.specs.Both.{both}
 use Rattle.law_descriptors.specs.Meeting.{met}
-use Rattle.law_below_hubs.specs.HostEvents.{told_key, AsksBack, AsksElse, AsksAlone}
+use Rattle.law_below_hubs.specs.HostEvents.{told_key, AsksBack, AsksElse, AsksAlone, IsWalkedAs}
 use Rattle.law_below_hubs.specs.HostOpens.{AsksNone}
 use Rattle.law_below_hubs.specs.HostOuts.{IsOfOther}
 use Rattle.law_world.specs.memory.Mixed.{Standing}
@@ -87,11 +94,46 @@ iso_way Directions.Out ways.In unless is = absurd (in_out is)
 iso_way Directions.Out ways.Out unless is = refl
 iso_way dir ways.Ctl unless is = absurd (unless refl)
 
-bulk_iso : (kind : EpKind) → kind ≡ kinds.Bulk → is_iso kind ≡ true → ⊥
-bulk_iso kind bulk iso = false≢true (ap is_iso (sym bulk) ∙ iso)
+stream_iso : (kind : EpKind) → has_stream kind ≡ true → is_iso kind ≡ true → ⊥
+stream_iso kinds.Iso streams iso = false≢true streams
+stream_iso kinds.Bulk streams iso = false≢true iso
+stream_iso kinds.Interrupt streams iso = false≢true iso
+stream_iso kinds.Control streams iso = false≢true iso
 
 bulk_interrupt : kinds.Bulk ≡ kinds.Interrupt → ⊥
 bulk_interrupt e = cc
+
+-- the ring meets no periodic endpoint (4.8)
+one_counts : (e : ℕ) (es : List ℕ) → is_one_of e es ≡ true → 1 ≤ times e es
+one_counts e [] is = absurd (false≢true is)
+one_counts e (x ∷ xs) is = by (one_counts e xs) (e == x) refl
+  where
+    by : (is_one_of e xs ≡ true → 1 ≤ times e xs) → (b : Bool) → (e == x) ≡ b → 1 ≤ times e (x ∷ xs)
+    by more true same =
+        let one : (x == e) ≡ true = eq-eqb x e (sym (eqb-true e x same)) in
+        rw one (omega arith)
+    by more false differs =
+        let later = more (sym (ap (λ (b : Bool). b || is_one_of e xs) differs) ∙ is) in
+        omega (arith, later)
+
+none_ringed : (d : DriverContent) (e : ℕ) (x : Endpoint) → HasOwners d → slice_get d.endpoints e ≡ Some x
+    → is_periodic x.desc.kind ≡ true → may_meet d e x ≡ true → ⊥
+none_ringed d e x has here periodic near = by x.linked refl
+  where
+    none : times e d.waiting + times e d.rung + times e d.cleared ≤ 0
+    none = subst (λ (n : ℕ). times e d.waiting + times e d.rung + times e d.cleared ≤ n) (ap leaves_ring here ∙ not_in_ring x periodic)
+        (has.orderly.leaving e)
+
+    counted : (a b : Bool) → (a ≡ true → 1 ≤ times e d.waiting) → (b ≡ true → 1 ≤ times e d.rung) → (a || b) ≡ true → ⊥
+    counted true b one other is = let n = one refl in omega (arith, none, n)
+    counted false true one other is = let n = other refl in omega (arith, none, n)
+    counted false false one other is = false≢true is
+
+    by : (b : Bool) → x.linked ≡ b → ⊥
+    by true on = false≢true (sym ((has.orderly.steady e x here).ring on) ∙ periodic)
+    by false off =
+        counted (is_one_of e d.waiting) (is_one_of e d.rung) (one_counts e d.waiting) (one_counts e d.rung)
+        (sym (ap (λ (b : Bool). b || (is_one_of e d.waiting || is_one_of e d.rung)) off) ∙ near)
 
 -- endpoint x, by its device's address and its number
 module _ (fixed : Fixed) (sides : Sides) (s : Standing) (m : Lines) (h : Heads) (w : World) (k : IsPiped fixed sides s m h w)
@@ -157,7 +199,7 @@ module _ (fixed : Fixed) (sides : Sides) (s : Standing) (m : Lines) (h : Heads) 
   module _ (none : (f : ℕ) (v : Endpoint) → slice_get w.driver.endpoints f ≡ Some v → is_iso v.desc.kind ≡ true
       → Never (way_of_dir dir) v) where
     iso_other : (addr ep : ℕ) (inward : Bool) (ask : Ask) → IsNamedIso w.driver addr ep inward → AsksIso addr ep inward ask
-        → IsOfOther (told_key dir x) ask
+        → IsOfOther (told_key kinds.Bulk dir x) ask
     iso_other addr ep inward ask i a way at num =
         let v : Endpoint = i.endpoint in
         let by_way : (if is_in v.desc.name.way then Directions.In else Directions.Out) ≡ dir =
@@ -166,7 +208,7 @@ module _ (fixed : Fixed) (sides : Sides) (s : Standing) (m : Lines) (h : Heads) 
         none i.number v i.here i.iso (iso_way dir v.desc.name.way (iso_data i.number v i.here i.iso) by_way)
         (sym i.named.address ∙ sym a.address ∙ at) (sym i.named.number ∙ sym a.number ∙ num)
 
-    pub iso_asks_other : (ask : Ask) → IsIsoAsk (both s.descs s.parts) ask → IsOfOther (told_key dir x) ask
+    pub iso_asks_other : (ask : Ask) → IsIsoAsk (both s.descs s.parts) ask → IsOfOther (told_key kinds.Bulk dir x) ask
     iso_asks_other ask (of_itd n v here a) =
         iso_other v.addr v.ep v.dir_in ask (itd_named sides s w k.mixed k.declared k.descriptors n v here) a
     iso_asks_other ask (of_sitd n v here a) =
@@ -175,7 +217,8 @@ module _ (fixed : Fixed) (sides : Sides) (s : Standing) (m : Lines) (h : Heads) 
 -- ---- an endpoint that is met
 
 module _ (fixed : Fixed) (sides : Sides) (s : Standing) (m : Lines) (h : Heads) (w : World) (k : IsPiped fixed sides s m h w)
-    (ways_are : AskTheirWays s w.driver) (dir : Dir) (e : ℕ) (y : Endpoint) (one : IsWatched w.driver (way_of_dir dir) e y) where
+    (ways_are : AskTheirWays s w.driver) (dir : Dir) (e : ℕ) (y : Endpoint) (kind : EpKind) (streams : has_stream kind ≡ true)
+    (one : IsWatched w.driver kind (way_of_dir dir) e y) where
   -- another endpoint has another name
   named_apart : (f : ℕ) (v : Endpoint) → slice_get w.driver.endpoints f ≡ Some v → v.desc.name.way ≡ way_of_dir dir
       → v.desc.name.addr ≡ y.desc.name.addr → v.desc.name.num ≡ y.desc.name.num → f ≡ e
@@ -194,21 +237,51 @@ module _ (fixed : Fixed) (sides : Sides) (s : Standing) (m : Lines) (h : Heads) 
         one.alone v.number v.endpoint v.here,
       ))
 
-  pub iso_aside : (ask : Ask) → IsIsoAsk (both s.descs s.parts) ask → IsOfOther (told_key dir (asked_as y.desc)) ask
+  pub iso_aside : (ask : Ask) → IsIsoAsk (both s.descs s.parts) ask → IsOfOther (told_key kinds.Bulk dir (asked_as y.desc)) ask
   iso_aside =
       iso_asks_other fixed sides s m h w k ways_are dir (asked_as y.desc) (λ f v there iso way addr num.
-      bulk_iso y.desc.kind one.bulk
+      stream_iso y.desc.kind (ap has_stream one.kind_is ∙ streams)
       (ap (λ (z : Endpoint). is_iso z.desc.kind) (sym (same_endpoint f v there (named_apart f v there way addr num))) ∙ iso))
 
-  pub unmet_by_frames : met w.driver s.recent (32 * y.queue) ≡ Some AQueue → ⊥
-  unmet_by_frames on =
+  unmet_by_frames : kind ≡ kinds.Bulk → met w.driver s.recent (32 * y.queue) ≡ Some AQueue → ⊥
+  unmet_by_frames bulk on =
       let q : IsQueueAt w.driver (32 * y.queue) = queue_belongs s w (32 * y.queue) k.mixed on in
       let v : Endpoint = q.belongs.endpoint in
       let same : q.belongs.number ≡ e =
       same_number w.driver k.mixed.now.framed.place.sound.owners q.belongs.number e v y q.belongs.here one.here
       (q.belongs.kept, ap is_iso q.kind) (kept_as y one.met.there.kept) (sym q.name) in
       bulk_interrupt
-      (sym one.bulk ∙ ap (λ (z : Endpoint). z.desc.kind) (sym (same_endpoint q.belongs.number v q.belongs.here same)) ∙ q.kind)
+      (sym (one.kind_is ∙ bulk) ∙ ap (λ (z : Endpoint). z.desc.kind) (sym (same_endpoint q.belongs.number v q.belongs.here same)) ∙ q.kind)
+
+  unmet_by_ring : kind ≡ kinds.Interrupt → s.member (32 * y.queue) ≡ true → ⊥
+  unmet_by_ring periodic on =
+      ⊎_elim
+      (λ (at : 32 * y.queue ≡ 32 * head_block).
+      let kept = kept_as y one.met.there.kept in
+      let off = queue_off_head w.driver e y k.mixed.now.framed.place.sound.owners one.here (has_queue y kept.1 kept.0) in
+      off (omega (arith, at)))
+      (λ (h : HasHead w.driver (32 * y.queue)).
+      ⊎_elim
+      (λ (frames : is_periodic h.endpoint.desc.kind ≡ true).
+      none_ringed w.driver h.number h.endpoint k.mixed.now.framed.place.sound.owners h.here frames h.met.near)
+      (λ (ring : is_periodic h.endpoint.desc.kind ≡ false).
+      let same : h.number ≡ e =
+      same_number w.driver k.mixed.now.framed.place.sound.owners h.number e h.endpoint y h.here one.here
+      (h.met.there.kept, ring_queue h.endpoint.desc.kind ring) (kept_as y one.met.there.kept) (sym h.at) in
+      let is : h.endpoint ≡ y = same_endpoint h.number h.endpoint h.here same in
+      false≢true (sym ring ∙ ap (λ (z : Endpoint). is_periodic z.desc.kind) is ∙ ap is_periodic (one.kind_is ∙ periodic)))
+      (cases_Bool (is_periodic h.endpoint.desc.kind)))
+      (k.mixed.ring.only (32 * y.queue) on)
+
+  -- its kind's walk alone meets it
+  pub walked_as : IsWalkedAs kind s.member (met w.driver s.recent) (32 * y.queue)
+  walked_as = by kind refl
+    where
+      by : (z : EpKind) → kind ≡ z → IsWalkedAs z s.member (met w.driver s.recent) (32 * y.queue)
+      by kinds.Bulk is = unmet_by_frames is
+      by kinds.Interrupt is = unmet_by_ring is
+      by kinds.Control is = absurd (false≢true (ap has_stream (sym is) ∙ streams))
+      by kinds.Iso is = absurd (false≢true (ap has_stream (sym is) ∙ streams))
 
 -- ---- an endpoint that isn't met
 
@@ -219,5 +292,5 @@ module _ (fixed : Fixed) (sides : Sides) (s : Standing) (m : Lines) (h : Heads) 
       asks_else fixed sides s m h w k ways_are dir x n on (λ v.
       (u.data_apart v.number v.endpoint v.here v.met, u.control_apart v.number v.endpoint v.here v.met))
 
-  pub iso_beside : (ask : Ask) → IsIsoAsk (both s.descs s.parts) ask → IsOfOther (told_key dir x) ask
+  pub iso_beside : (ask : Ask) → IsIsoAsk (both s.descs s.parts) ask → IsOfOther (told_key kinds.Bulk dir x) ask
   iso_beside = iso_asks_other fixed sides s m h w k ways_are dir x u.iso_apart

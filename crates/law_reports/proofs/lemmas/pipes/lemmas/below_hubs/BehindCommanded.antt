@@ -1,37 +1,26 @@
 -- Each command, accepted or refused, leaves the bulk OUT endpoints below hubs as they must stand, with what was put to them.
-use Rattle.std.proofs.Common.{◌≡◌, ◌≢◌, ℕ, ◌+◌, ◌*◌, ◌<◌, true, List, [], ◌∷◌, ◌++◌, length, slice_get, Option}
+use Rattle.std.proofs.Common.{◌≡◌, ℕ, ◌+◌, ◌*◌, ◌<◌, true, List, [], ◌∷◌, ◌++◌, length, slice_get}
 use Rattle.std.proofs.Common.{Some, None, Result, Ok, Err, ap, refl, sym, subst, ◌∙◌, ⊎_elim, inl, arith}
-use Rattle.std.specs.Prelude.{◌⊎◌, slice_index}
+use Rattle.std.specs.Prelude.{◌⊎◌}
 use Rattle.std.specs.List.{concat}
-use Rattle.std.proofs.lemmas.Bool.{cases_eq, true≢false}
 use Rattle.std.proofs.lemmas.List.{append-nil, length-map}
 use Rattle.std.proofs.Output.{concat-append}
-use Rattle.std.proofs.lemmas.Option.{same_Some}
-use Rattle.law_world.proofs.Common.{begins_both, none_some, same_queue}
+use Rattle.law_world.proofs.Common.{begins_both, none_some}
 use Rattle.law_common.proofs.Lists.{push_which}
 use Rattle.law_microframes.proofs.Common.{idle_by}
 use Rattle.usb_base.specs.declared.commands.Cmd.{Cmd}
 use Rattle.usb_base.specs.declared.endpoints.EpDesc.{EpDesc}
-use Rattle.usb_base.specs.declared.packets.EpKind.{EpKind}
-use Rattle.usb_base.specs.declared.packets.EpKind.TheVariants as kinds
 use Rattle.usb_base.specs.declared.packets.Way.TheVariants as ways
 use Rattle.usb_base.specs.declared.reports.OfferError.{OfferError}
 use Rattle.word_mem.specs.Memory.{Mem}
 use Rattle.bus_wire.specs.Bus.{Fixed}
 use Rattle.claims_base.specs.Prefix.{IsPrefix}
-use Rattle.drv_table.specs.declared.content.Command.{Command}
 use Rattle.drv_table.specs.declared.content.Command.TheVariants as unfinished
 use Rattle.drv_table.specs.declared.content.Endpoint.{Endpoint}
-use Rattle.drv_periodic_table.specs.Periodic.{is_periodic}
-use Rattle.drv_table.specs.Accepting.{Offered, new_runs}
+use Rattle.drv_table.specs.Accepting.{Offered}
 use Rattle.drv_table.specs.DriverContent.{DriverContent}
-use Rattle.drv_table.specs.Offers.{offered, placed_endpoint, IsOffered}
-use Rattle.law_driver.specs.queued_drivers.Queued.{queue_of, queued_endpoint, queued}
-use Rattle.law_driver.proofs.lemmas.queued_drivers.CommandFields.{last_get}
-use Rattle.law_driver.proofs.lemmas.queued_drivers.CommandLeaves.{unchained}
-use Rattle.law_driver.proofs.lemmas.ring_members.Placed.{has_queue, queues_apart}
-use Rattle.law_driver.specs.run_owners.Accepts.{Chains, Accepts, opens as accepts_open, chains, places, transfers, describes}
-use Rattle.law_driver.specs.run_owners.Accepts.{cancels, unchains}
+use Rattle.drv_table.specs.Offers.{offered, IsOffered}
+use Rattle.law_driver.specs.queued_drivers.Queued.{queued_endpoint, queued}
 use Rattle.law_driver.proofs.lemmas.queued_drivers.CommandReasons.{reason_of}
 use Rattle.law_driver.proofs.lemmas.queued_drivers.RowEvents.{idle_told}
 use Rattle.law_driver.proofs.lemmas.run_owners.Commands.{each_command_has_its_reason}
@@ -49,11 +38,11 @@ use Rattle.bus_world.specs.World.{World, name_in, commanded_by, commanded, refus
 use Rattle.law_reports.specs.lines.Lined.{in_hand, Lines}
 use Rattle.law_reports.proofs.lemmas.lines.IsoGoing.{told_apart}
 use Rattle.law_reports.specs.pipes.Declared.{Sides}
-use Rattle.law_reports.specs.pipes.Piped.{Heads, IsOpening, AreFresh, AreLeft, IsPiped}
+use Rattle.law_reports.specs.pipes.Piped.{Heads, AreFresh, AreLeft, IsPiped}
 use Rattle.law_reports.specs.pipes.PipedLaws.{OpensDeclared}
 use Rattle.law_reports.specs.pipes.puts.Paid.{Pays}
 use Rattle.law_reports.specs.pipes.below_hubs.Behind.{Spots, IsSpot, AreSpots, sent_in, IsUnsent, Within, HasLeft, IsMetOut, AreInsRight}
-use Rattle.law_reports.specs.pipes.below_hubs.Behind.{OpensInRing, IsBehind}
+use Rattle.law_reports.specs.pipes.below_hubs.Behind.{IsBehind}
 use Rattle.law_reports.specs.pipes.below_hubs.BehindLaws.{OpensSpot}
 use Rattle.law_reports.specs.quiet.Errors.{PublishesLeft}
 use Rattle.law_reports.proofs.lemmas.quiet.Steps.{command_by}
@@ -99,14 +88,6 @@ module _ (d f : DriverContent) (g : IsGrown d f) (puts now : ℕ → List ℕ)
       ∙ ap (λ (os : List (List ℕ)). concat os ++ concat (puts_in now e (0 + length (owners_in d)) g.more)) (sym old) in
       begins_both xs (concat (puts_of (queued d) puts e)) (concat (puts_of (queued f) now e)) begins
       (concat (puts_in now e (0 + length (owners_in d)) g.more), sym all)
-
--- ---- which command is unfinished
-
-bulk_periodic : (kind : EpKind) → kind ≡ kinds.Bulk → is_periodic kind ≡ true → ⊥
-bulk_periodic kind bulk periodic = true≢false (sym periodic ∙ ap is_periodic bulk)
-
-other_chain : (c : Command) → (c ≡ unfinished.Chain → ⊥) → Some c ≡ Some unfinished.Chain → ⊥
-other_chain c differs is = differs (same_Some c unfinished.Chain is)
 
 module _ (fixed : Fixed) (x : Sides) (o : Spots) (s : Standing) (m : Lines) (h : Heads) (puts : ℕ → List ℕ) (w : World)
     (k : IsPiped fixed x s m h w) (pays : Pays fixed x s m puts w) (b : IsBehind fixed o s m puts w) where
@@ -162,14 +143,13 @@ module _ (fixed : Fixed) (x : Sides) (o : Spots) (s : Standing) (m : Lines) (h :
         (more e bs (old e v.endpoint v.here (ap (λ (c : EpDesc). c.name.way) (sym v.comes.desc) ∙ way)
         (ap (λ (c : EpDesc). c.name.addr) (sym v.comes.desc)) (ap (λ (c : EpDesc). c.name.num) (sym v.comes.desc))))
 
-    pub with_driver : PublishesLeft f.made f.command → OpensInRing f → AreSpots o f
+    pub with_driver : PublishesLeft f.made f.command → AreSpots o f
         → AreFresh f ways.Out o.has (IsUnsent o (wired fixed w))
         → AreLeft f m.acc ways.Out o.has (HasLeft o (wired fixed w) (Within puts w.driver))
         → IsBehind fixed o s m now (record w { driver = f; memory = mem })
-    with_driver first ring spots fresh left = record {
+    with_driver first spots fresh left = record {
       ins = ins_then;
       first = first;
-      ring = ring;
       spots = spots;
       hubs = b.hubs;
       met = met_then;
@@ -192,8 +172,6 @@ module _ (fixed : Fixed) (x : Sides) (o : Spots) (s : Standing) (m : Lines) (h :
       (puts_more w.driver f (record { more = []; owners = sym (append-nil (owners_in w.driver)) }) puts (puts_then w.driver cmd puts)
       (then_before w.driver cmd puts))
       (command_by w line cmd (name_in cmd) (Err why) is b.first)
-      (λ e y here bulk opening chain.
-      b.ring e y here bulk (record { kept = opening.kept; queue = opening.queue; command = opening.command }) chain)
       b.spots
       (fresh_carried w.driver f (λ e y here. record { endpoint = y; here = here; comes = itself y }) (λ q opening. opening) ways.Out o.has
       (IsUnsent o (wired fixed w)) b.fresh)
@@ -214,52 +192,6 @@ module _ (fixed : Fixed) (x : Sides) (o : Spots) (s : Standing) (m : Lines) (h :
 
     adds : Adds w.driver cmd f.driver
     adds = subst (IfAccepted (Adds w.driver cmd)) is (command_adds w.driver w.memory cmd)
-
-    -- the one that is opened in frames is no bulk one
-    module _ (a : Chains w.driver w.memory f) where
-      abbrev placed : Endpoint
-      placed = placed_endpoint a.desc a.placement (slice_index (new_runs w.driver a.holding_after) 0)
-          (slice_index (new_runs w.driver a.holding_after) 1)
-
-      its_place : slice_get f.driver.endpoints (length w.driver.endpoints) ≡ Some placed
-      its_place = ap (λ (g : Offered). slice_get g.driver.endpoints (length w.driver.endpoints)) a.is ∙ last_one w.driver.endpoints
-        where
-          last_one : (xs : List Endpoint) → slice_get (xs ++ placed ∷ []) (length xs) ≡ Some placed
-          last_one [] = refl
-          last_one (v ∷ vs) = last_one vs
-
-      opens_it : (queued f.driver).command ≡ Some (unfinished.Open placed.queue)
-      opens_it = ap (λ (g : Offered). (queued g.driver).command) a.is
-          ∙ ap (λ (e : Option Endpoint). Some (unfinished.Open (queue_of e))) (last_get w.driver.endpoints _)
-
-      chained : (e : ℕ) (y : Endpoint) → slice_get f.driver.endpoints e ≡ Some y → y.desc.kind ≡ kinds.Bulk → IsOpening f.driver y → ⊥
-      chained e y here bulk opening =
-          ⊎_elim
-          (λ (own : e ≡ length w.driver.endpoints).
-          let it : y ≡ placed = same_Some y placed (sym here ∙ ap (slice_get f.driver.endpoints) own ∙ its_place) in
-          bulk_periodic a.desc.kind (ap (λ (v : Endpoint). v.desc.kind) (sym it) ∙ bulk) a.periodic)
-          (λ (differs : e ≢ length w.driver.endpoints).
-          queues_apart f.driver e (length w.driver.endpoints) y placed new.mixed.now.framed.place.sound.owners here
-          (has_queue y opening.queue opening.kept) its_place (has_queue placed a.queued refl) differs
-          (same_queue y.queue placed.queue (sym opening.command ∙ opens_it)))
-          (cases_eq e (length w.driver.endpoints))
-
-    ring_then : OpensInRing f.driver
-    ring_then e y here bulk opening chain = by (each_command_has_its_reason w.driver w.memory cmd f is)
-      where
-        by : Accepts w.driver w.memory f → ⊥
-        by (accepts_open a) = other_chain _ (λ e. cc) (sym (ap (λ (g : Offered). g.driver.command) a.is) ∙ chain)
-        by (chains a) = chained a e y here bulk opening
-        by (places a) = none_some unfinished.Chain (sym (ap (λ (g : Offered). g.driver.command) a.is ∙ a.idle) ∙ chain)
-        by (transfers a) = other_chain _ (λ e. cc) (sym (ap (λ (g : Offered). g.driver.command) a.is) ∙ chain)
-        by (describes a) = other_chain _ (λ e. cc) (sym (ap (λ (g : Offered). g.driver.command) a.is) ∙ chain)
-        by (cancels a) = other_chain _ (λ e. cc) (sym (ap (λ (g : Offered). g.driver.command) a.is) ∙ chain)
-        by (unchains a) =
-            let u = unchained w.driver w.memory f a in
-            let told : f.driver.command ≡ u.command = ap (λ (g : DriverContent). g.command) u.is in
-            ⊎_elim
-            (λ (one : u.command ≡ Some (unfinished.Unchain a.number)). other_chain _ (λ e. cc) (sym (told ∙ one) ∙ chain))
-            (λ (one : u.command ≡ None). none_some unfinished.Chain (sym (told ∙ one) ∙ chain)) u.which
 
     spots_by : (c : Cmd) → OpensSpot o c → EndsThen w.driver f.driver c → AreSpots o f.driver
     spots_by c opens_spot (one_more y asked added kept newest tells) e z here =
@@ -288,7 +220,7 @@ module _ (fixed : Fixed) (x : Sides) (o : Spots) (s : Standing) (m : Lines) (h :
         (puts_more w.driver f.driver (grown_by w.driver f.driver cmd adds) puts
         (puts_then w.driver cmd puts) (then_before w.driver cmd puts))
         (command_by w line cmd (name_in cmd) (Ok f) is b.first)
-        ring_then (spots_by cmd spotted ends) (fresh_by ends)
+        (spots_by cmd spotted ends) (fresh_by ends)
         (accepted_left fixed x s m h w k f.driver cmd told_idle ends ways.Out o.has Left (begun fixed x o s m h puts w k pays b) b.left)
 
   -- ---- any command

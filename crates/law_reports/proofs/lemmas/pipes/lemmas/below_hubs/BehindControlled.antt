@@ -1,4 +1,4 @@
--- Each event of the controller leaves the bulk OUT endpoints below hubs as they must stand, with what was put to them.
+-- Each event of the controller leaves the OUT endpoints with a stream below hubs as they must stand, with what was put to them.
 use Rattle.std.proofs.Common.{◌≡◌, ℕ, ◌*◌, Bool, true, false, List, [], ◌++◌, slice_get, Option, Some, None, ap, refl, sym, subst, ◌∙◌}
 use Rattle.std.proofs.Common.{⊎_elim}
 use Rattle.std.specs.Prelude.{◌&&◌, not}
@@ -18,7 +18,7 @@ use Rattle.claims_base.specs.Controller.{opening_base}
 use Rattle.claims_base.specs.Prefix.{IsPrefix}
 use Rattle.claims_driver.specs.Scripts.{receives}
 use Rattle.claims_report.specs.Streams.{told_in, has_stream}
-use Rattle.claims_world.specs.BelowStreams.{is_bulk, is_bulk_below}
+use Rattle.claims_world.specs.BelowStreams.{is_bulk, is_out_below}
 use Rattle.drv_table.specs.declared.content.Endpoint.{Endpoint}
 use Rattle.drv_table.specs.Kinds.{is_iso}
 use Rattle.drv_table.specs.Words.{is_high}
@@ -53,12 +53,14 @@ use Rattle.law_microframes.specs.visits.WorldPipes.{EventOf}
 use Rattle.law_reports.specs.pipes.Declared.{Sides}
 use Rattle.law_reports.specs.pipes.Piped.{Heads, asked_as, AreFresh, AreLeft, IsPiped}
 use Rattle.law_reports.specs.pipes.puts.Paid.{Pays}
-use Rattle.law_reports.specs.pipes.below_hubs.Behind.{Spots, IsSpotBy, IsOutSpot, sent_in, out_at, IsUnsent, Within, HasLeft, IsMetOut}
-use Rattle.law_reports.specs.pipes.below_hubs.Behind.{AreInsRight, IsBehind}
+use Rattle.law_reports.specs.pipes.below_hubs.Behind.{Spots, stream_kind, kind_at, IsSpotBy, IsOutSpot, sent_in, out_at, IsUnsent, Within}
+use Rattle.law_reports.specs.pipes.below_hubs.Behind.{HasLeft, IsMetOut, AreInsRight, IsBehind}
+use Rattle.law_reports.specs.pipes.below_hubs.BehindLaws.{WorldFindsNoneTold}
 use Rattle.law_reports.specs.pipes.below_hubs.Controlled.{AsksItsWay, AskTheirWays, IsWatched, IsUnasked}
 use Rattle.law_reports.proofs.lemmas.pipes.Controlled.{c, z, goes, controlled, alone, off, moved_same, unopened_met, unmet_by}
 use Rattle.law_reports.proofs.lemmas.pipes.Names.{kept_as, name_is}
 use Rattle.law_reports.proofs.lemmas.pipes.lemmas.below_hubs.Controlled.{controller_keeps_out_below, controller_leaves_out}
+use Rattle.law_reports.proofs.lemmas.pipes.lemmas.below_hubs.FoundNone.{none_told}
 use Rattle.law_reports.proofs.lemmas.pipes.lemmas.below_hubs.Going.{going_begins}
 use Rattle.law_reports.proofs.lemmas.pipes.lemmas.below_hubs.HubStays.{event_keeps_hub}
 use Rattle.law_reports.proofs.lemmas.pipes.lemmas.puts.Event.{controlled_pays, stopped_or}
@@ -70,11 +72,12 @@ pub bulk_is : (kind : EpKind) → is_bulk kind ≡ true → kind ≡ kinds.Bulk
 bulk_is kinds.Bulk is = refl
 bulk_is _ is = absurd (false≢true is)
 
-pub claimed_bulk : (x : EpDesc) → is_bulk_below x ≡ true → x.kind ≡ kinds.Bulk
-claimed_bulk x is = bulk_is x.kind (and_parts (is_bulk x.kind) (not (is_high x.speed) && not (receives x.name.way)) is).0
+pub claimed_stream : (x : EpDesc) → is_out_below x ≡ true → has_stream x.kind ≡ true
+claimed_stream x is = (and_parts (has_stream x.kind) (not (is_high x.speed) && not (receives x.name.way)) is).0
 
-pub claimed_stream : (x : EpDesc) → is_bulk_below x ≡ true → has_stream x.kind ≡ true
-claimed_stream x is = ap has_stream (claimed_bulk x is)
+pub each_streams : (b : Bool) → has_stream (stream_kind b) ≡ true
+each_streams true = refl
+each_streams false = refl
 
 -- ---- what was sent
 
@@ -83,10 +86,10 @@ shadow_sent toggle known None = refl
 shadow_sent toggle known (Some x) = refl
 
 -- one that the host told with the queue head
-pub shadow_pipe : (wire : Wired) (i place : ℕ) (known : List ℕ) (s : Standing) (n : ℕ) (t : Told)
-    → (b : IsOutBehind wire i place known s.parts (in_hand s) n t)
+pub shadow_pipe : (kind : EpKind) (wire : Wired) (i place : ℕ) (known : List ℕ) (s : Standing) (n : ℕ) (t : Told)
+    → (b : IsOutBehind kind wire i place known s.parts (in_hand s) n t)
     → IsOutPipe (Some (shadow (hand_host (in_hand s) n b.queue).toggle known b.host.next)) known s.parts (in_hand s) n t
-shadow_pipe wire i place known s n t b = record {
+shadow_pipe kind wire i place known s n t b = record {
   named = record { queue = b.queue; head = b.head; is = b.is };
   outs = b.outs;
   toggle = (hand_host (in_hand s) n b.queue).toggle;
@@ -121,8 +124,14 @@ module _ (fixed : Fixed) (x : Sides) (o : Spots) (s : Standing) (m : Lines) (h :
     pub spot : IsOutSpot o y.desc
     spot = subst (IsSpotBy o y.desc) way (b.spots e y here)
 
-    pub claimed : is_bulk_below y.desc ≡ true
-    claimed = spot.bulk on
+    pub claimed : is_out_below y.desc ≡ true
+    claimed = spot.out on
+
+    abbrev its_kind : EpKind
+    its_kind = kind_at o y.desc.name.addr y.desc.name.num
+
+    pub streams : has_stream (kind_at o y.desc.name.addr y.desc.name.num) ≡ true
+    streams = each_streams (o.periodic y.desc.name.addr y.desc.name.num)
 
     -- no control endpoint has its number
     pub none_control : (f : ℕ) (v : Endpoint) → slice_get w.driver.endpoints f ≡ Some v → v.desc.name.way ≡ ways.Ctl
@@ -131,11 +140,12 @@ module _ (fixed : Fixed) (x : Sides) (o : Spots) (s : Standing) (m : Lines) (h :
         true≢false (sym on ∙ ap (λ (a : ℕ). o.has a y.desc.name.num) (sym addr) ∙ ap (o.has v.desc.name.addr) (sym num)
         ∙ subst (IsSpotBy o v.desc) ctl (b.spots f v there))
 
-    pub watched : IsMet (queued w.driver) e (queued_endpoint y) → IsWatched w.driver ways.Out e y
+    pub watched : IsMet (queued w.driver) e (queued_endpoint y) → IsWatched w.driver
+        (kind_at o y.desc.name.addr y.desc.name.num) ways.Out e y
     watched is_met = record {
       here = here;
       met = is_met;
-      bulk = claimed_bulk y.desc claimed;
+      kind_is = spot.kind on;
       way_is = way;
       alone = none_control;
     }
@@ -206,17 +216,23 @@ module _ (fixed : Fixed) (x : Sides) (o : Spots) (s : Standing) (m : Lines) (h :
     old = b.met e y here way on is_met
 
     abbrev Then : List ℕ → List ℕ → Type 0
-    Then known bytes = (r : IsOutBehind (wired fixed (controller_next fixed w)) (o.hub y.desc.name.addr y.desc.name.num)
+    Then known bytes = (r : IsOutBehind (kind_at o y.desc.name.addr y.desc.name.num) (wired fixed (controller_next fixed w))
+        (o.hub y.desc.name.addr y.desc.name.num)
         (o.place y.desc.name.addr y.desc.name.num) known (standing_then s w (c fixed x s m h w k).event).parts
         (in_hand (standing_then s w (c fixed x s m h w k).event)) (32 * y.queue) (asked_as y.desc))
         × KeepsSent (s.parts (32 * y.queue)) ((standing_then s w (c fixed x s m h w k).event).parts (32 * y.queue))
         old.behind.queue.token.active old.behind.host.next r.host.next bytes
 
-    goes_so : Then (concat ((goes fixed x s m h w k).moved (32 * y.queue))) (bytes_of_both (32 * y.queue) (z fixed x s m h w k))
-    goes_so =
+    goes_so : WorldFindsNoneTold (wired fixed w) w → Then (concat ((goes fixed x s m h w k).moved (32 * y.queue))) (bytes_of_both
+        (32 * y.queue) (z fixed x s m h w k))
+    goes_so finds =
         subst (λ (known : List ℕ). Then known (bytes_of_both n z_now)) (sym ((goes fixed x s m h w k).adds n))
-        (controller_keeps_out_below fixed x s m h w k ask_ways event z_now e y (watched e y here way on is_met) i place
-        (concat (m.acc n)) old.behind)
+        (controller_keeps_out_below fixed x s m h w k ask_ways event z_now e y (kind_at o y.desc.name.addr y.desc.name.num)
+        (streams e y here way on) (watched e y here way on is_met) i place (concat (m.acc n))
+        (none_told fixed s w k.mixed event (32 * y.queue) (asked_as y.desc) (kind_at o y.desc.name.addr y.desc.name.num) i place
+        old.behind.outs (record { queue = old.behind.queue; head = old.behind.head; is = old.behind.is }) old.behind.below old.behind.hub
+        finds)
+        old.behind)
 
     -- it was halted, or is now
     stopped : (next later : Option (List ℕ)) (bytes : List ℕ)
@@ -240,21 +256,26 @@ module _ (fixed : Fixed) (x : Sides) (o : Spots) (s : Standing) (m : Lines) (h :
     part_then = part_at after lines new now.mixed now.telling n
         (record { number = e; endpoint = y; here = here; there = is_met.there; way_is = way; at = refl })
 
-    pub met_then : IsMetOut o (wired fixed (controller_next fixed w)) (concat ((goes fixed x s m h w k).moved (32 * y.queue)))
+    pub met_then : WorldFindsNoneTold (wired fixed w) w → IsMetOut o (wired fixed (controller_next fixed w)) (concat
+        ((goes fixed x s m h w k).moved (32 * y.queue)))
         (concat (puts_of (queued w.driver) puts e)) (standing_then s w (c fixed x s m h w k).event) y
-    met_then = record {
-      behind = goes_so.0;
+    met_then finds = record {
+      behind = (goes_so finds).0;
       within = ⊎_elim
           (λ (halted : IsStopped after.parts n).
-          stopped old.behind.host.next goes_so.0.host.next (bytes_of_both n z_now) halted ((goes fixed x s m h w k).adds n) old.within
-          goes_so.1)
+          stopped old.behind.host.next (goes_so finds).0.host.next (bytes_of_both n z_now) halted
+          ((goes fixed x s m h w k).adds n) old.within
+          (goes_so finds).1)
           (λ (going : IsStopped after.parts n → ⊥).
-          let p : IsOutPipe (Some (shadow (hand_host (in_hand after) n goes_so.0.queue).toggle (concat (lines.acc n)) goes_so.0.host.next))
+          let p : IsOutPipe (Some (shadow (hand_host (in_hand after) n (goes_so finds).0.queue).toggle (concat (lines.acc n))
+          (goes_so finds).0.host.next))
           (concat (lines.acc n)) after.parts (in_hand after) n (asked_as y.desc) =
-          shadow_pipe (wired fixed new) i place (concat (lines.acc n)) after n (asked_as y.desc) goes_so.0 in
-          let t : Taker = shadow (hand_host (in_hand after) n goes_so.0.queue).toggle (concat (lines.acc n)) goes_so.0.host.next in
+          shadow_pipe (kind_at o y.desc.name.addr y.desc.name.num) (wired fixed new) i place (concat (lines.acc n)) after n
+          (asked_as y.desc) (goes_so finds).0 in
+          let t : Taker = shadow (hand_host (in_hand after) n (goes_so finds).0.queue).toggle (concat (lines.acc n))
+          (goes_so finds).0.host.next in
           subst (λ (bs : List ℕ). IsPrefix bs all)
-          (shadow_sent (hand_host (in_hand after) n goes_so.0.queue).toggle (concat (lines.acc n)) goes_so.0.host.next)
+          (shadow_sent (hand_host (in_hand after) n (goes_so finds).0.queue).toggle (concat (lines.acc n)) (goes_so finds).0.host.next)
           (subst (λ (u : Taker). IsPrefix u.taken all) (same_Some p.taker t (sym p.is))
           (going_begins fixed x after lines h puts new now pays_now e y here is_met way (Some t) (asked_as y.desc) p going)))
           (stopped_or after.parts n part_then);
@@ -266,9 +287,9 @@ module _ (fixed : Fixed) (x : Sides) (o : Spots) (s : Standing) (m : Lines) (h :
   named_as addr ep = record { addr = addr; ep = ep; speed = 0; max = 0; dtc = false; hub = 0; port = 0 }
 
   module _ (addr ep : ℕ) (u : IsUnasked w.driver ways.Out (named_as addr ep)) where
-    pub side_stays : (i place : ℕ) (toggle waiting : Bool) (known : List ℕ) (next : Option (List ℕ))
-        → OutSide (out_at addr ep) i place (wired fixed w) toggle waiting known next
-        → OutSide (out_at addr ep) i place (wired fixed (controller_next fixed w)) toggle waiting known next
+    pub side_stays : (kind : EpKind) → has_stream kind ≡ true → (i place : ℕ) (toggle waiting : Bool) (known : List ℕ)
+        (next : Option (List ℕ)) → OutSide (out_at kind addr ep) i place (wired fixed w) toggle waiting known next
+        → OutSide (out_at kind addr ep) i place (wired fixed (controller_next fixed w)) toggle waiting known next
     side_stays = controller_leaves_out fixed x s m h w k ask_ways event z_now (named_as addr ep) u
 
   unasked_by : (e : ℕ) (y : Endpoint) → slice_get w.driver.endpoints e ≡ Some y → y.desc.name.way ≡ ways.Out
@@ -292,7 +313,8 @@ module _ (fixed : Fixed) (x : Sides) (o : Spots) (s : Standing) (m : Lines) (h :
     waiting = l.waiting;
     known = l.known;
     next = l.next;
-    side = side_stays y.desc.name.addr y.desc.name.num (unasked_by e y here way on unmet) (o.hub y.desc.name.addr y.desc.name.num)
+    side = side_stays y.desc.name.addr y.desc.name.num (unasked_by e y here way on unmet) (kind_at o y.desc.name.addr y.desc.name.num)
+        (streams e y here way on) (o.hub y.desc.name.addr y.desc.name.num)
         (o.place y.desc.name.addr y.desc.name.num) l.toggle l.waiting l.known l.next l.side;
     begins = l.begins;
     within = l.within;
@@ -323,7 +345,8 @@ module _ (fixed : Fixed) (x : Sides) (o : Spots) (s : Standing) (m : Lines) (h :
         control_apart = λ f v there is_met its same also. none_ctl addr ep on f v there its same also;
         iso_apart = λ f v there iso its same also. true≢false (sym iso ∙ (unused f v there its same also).queue);
       })
-      (o.hub addr ep) (o.place addr ep) false false [] None (b.fresh addr ep on unused)
+      (kind_at o addr ep) (each_streams (o.periodic addr ep)) (o.hub addr ep) (o.place addr ep) false false [] None
+      (b.fresh addr ep on unused)
 
   -- ---- the whole
 
@@ -333,15 +356,14 @@ module _ (fixed : Fixed) (x : Sides) (o : Spots) (s : Standing) (m : Lines) (h :
       true≢false (sym on ∙ ap (λ (a : ℕ). o.has a ep) (sym same) ∙ ap (o.has v.desc.name.addr) (sym also)
       ∙ subst (IsSpotBy o v.desc) ctl (b.spots f v there))
 
-  pub controlled_behind : IsBehind fixed o (standing_then s w (c fixed x s m h w k).event) (record
+  pub controlled_behind : WorldFindsNoneTold (wired fixed w) w → IsBehind fixed o (standing_then s w (c fixed x s m h w k).event) (record
       { acc = (goes fixed x s m h w k).moved; reported = m.reported }) puts (controller_next fixed w)
-  controlled_behind = record {
+  controlled_behind finds = record {
     ins = ins_then;
     first = b.first;
-    ring = b.ring;
     spots = b.spots;
     hubs = hubs_then;
-    met = met_then;
+    met = λ e y here way on is_met. met_then e y here way on is_met finds;
     fresh = fresh_then none_ctl;
     left = left_then;
   }

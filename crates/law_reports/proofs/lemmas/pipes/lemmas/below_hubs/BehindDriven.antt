@@ -1,5 +1,5 @@
--- Each event of the driver leaves the bulk OUT endpoints below hubs as they must stand, with what was put to them.
-use Rattle.std.proofs.Common.{◌≡◌, ◌≢◌, ℕ, ◌*◌, ◌==◌, ◌≤◌, true, false, List, [], slice_get, Option, Some, None, ap, refl, sym}
+-- Each event of the driver leaves the OUT endpoints with a stream below hubs as they must stand, with what was put to them.
+use Rattle.std.proofs.Common.{◌≡◌, ◌≢◌, ℕ, ◌*◌, ◌==◌, true, false, List, [], slice_get, Option, Some, None, ap, refl, sym}
 use Rattle.std.proofs.Common.{subst, ◌∙◌, ⊎_elim, inl, inr}
 use Rattle.std.specs.Prelude.{◌⊎◌}
 use Rattle.std.specs.List.{concat}
@@ -21,12 +21,10 @@ use Rattle.bus_wire.specs.Bus.{Fixed, Wired}
 use Rattle.claims_base.specs.Prefix.{IsPrefix}
 use Rattle.claims_driver.specs.Scripts.{receives}
 use Rattle.claims_report.specs.Streams.{has_stream}
-use Rattle.claims_world.specs.BelowStreams.{is_bulk, is_bulk_below}
+use Rattle.claims_world.specs.BelowStreams.{is_out_below}
 use Rattle.drv_table.specs.declared.content.Command.TheVariants as unfinished
 use Rattle.drv_table.specs.declared.content.Endpoint.{Endpoint}
 use Rattle.drv_table.specs.DriverContent.{DriverContent}
-use Rattle.drv_table.specs.Kinds.{is_iso}
-use Rattle.drv_table.specs.Rows.{driver_row}
 use Rattle.drv_table.specs.Words.{is_high, speed_field}
 use Rattle.law_driver.specs.endpoint_lives.Lives.{may_meet}
 use Rattle.law_driver.specs.queued_drivers.Queued.{queued_endpoint, queued}
@@ -52,11 +50,11 @@ use Rattle.law_reports.specs.lines.TellingLaws.{IsTellingNext}
 use Rattle.law_reports.specs.pipes.Declared.{Sides}
 use Rattle.law_reports.specs.pipes.Piped.{Heads, asked_as, IsOpening, AreFresh, AreLeft, IsPiped}
 use Rattle.law_reports.specs.pipes.puts.Paid.{Pays}
-use Rattle.law_reports.specs.pipes.below_hubs.Behind.{Spots, IsSpot, AreSpots, sent_in, IsUnsent}
+use Rattle.law_reports.specs.pipes.below_hubs.Behind.{Spots, kind_at, IsSpot, AreSpots, sent_in, IsUnsent}
 use Rattle.law_reports.specs.pipes.below_hubs.Behind.{Within, HasLeft}
-use Rattle.law_reports.specs.pipes.below_hubs.Behind.{IsMetOut, AreInsRight, OpensInRing, IsBehind}
+use Rattle.law_reports.specs.pipes.below_hubs.Behind.{IsMetOut, AreInsRight, IsBehind}
 use Rattle.law_reports.proofs.lemmas.quiet.Steps.{driver_publishes}
-use Rattle.law_reports.proofs.lemmas.pipes.Across.{WasIn, row_command}
+use Rattle.law_reports.proofs.lemmas.pipes.Across.{WasIn}
 use Rattle.law_reports.proofs.lemmas.pipes.Carried.{was_met, fresh_carried}
 use Rattle.law_reports.proofs.lemmas.pipes.Driven.{was_end, now_end, opening_then}
 use Rattle.law_reports.proofs.lemmas.pipes.DrivenSteps.{none_more, none_nearer}
@@ -64,9 +62,9 @@ use Rattle.law_reports.proofs.lemmas.pipes.Followed.{there_by, unmet_then, gone_
 use Rattle.law_reports.proofs.lemmas.pipes.Leaving.{IsNoReturn, step_opens}
 use Rattle.law_reports.proofs.lemmas.pipes.Names.{queue_same, met_near}
 use Rattle.law_reports.proofs.lemmas.pipes.Opened as O
-use Rattle.law_reports.proofs.lemmas.pipes.lemmas.below_hubs.BehindControlled.{claimed_bulk, claimed_stream, spot, claimed, its_name}
+use Rattle.law_reports.proofs.lemmas.pipes.lemmas.below_hubs.BehindControlled.{claimed_stream, spot, claimed, its_name}
 use Rattle.law_reports.proofs.lemmas.pipes.lemmas.below_hubs.InsSteps.{step_ins, opened_ins, none_active}
-use Rattle.law_reports.proofs.lemmas.pipes.lemmas.below_hubs.NewOuts.{new_first}
+use Rattle.law_reports.proofs.lemmas.pipes.StartingHeads.{new_first}
 use Rattle.law_reports.proofs.lemmas.pipes.lemmas.below_hubs.Starting.{publishes_start}
 use Rattle.law_reports.proofs.lemmas.pipes.lemmas.below_hubs.Steps.{step_keeps_out_behind}
 use Rattle.law_reports.proofs.lemmas.pipes.lemmas.puts.Driving.{puts_alike}
@@ -117,11 +115,11 @@ slow_field speeds.High off = absurd (true≢false off)
 slow_field speeds.Full off = refl
 slow_field speeds.Low off = refl
 
-pub claimed_slow : (x : EpDesc) → is_bulk_below x ≡ true → ((asked_as x).speed == 2) ≡ false
+pub claimed_slow : (x : EpDesc) → is_out_below x ≡ true → ((asked_as x).speed == 2) ≡ false
 claimed_slow x is =
     slow_field x.speed (not_high (is_high x.speed)
     (sym (and_parts (not (is_high x.speed)) (not (receives x.name.way))
-    (and_parts (is_bulk x.kind) (not (is_high x.speed) && not (receives x.name.way)) is).1).0))
+    (and_parts (has_stream x.kind) (not (is_high x.speed) && not (receives x.name.way)) is).1).0))
 
 out_ctl : ways.Out ≡ ways.Ctl → ⊥
 out_ctl e = cc
@@ -152,7 +150,8 @@ module _ (fixed : Fixed) (x : Sides) (o : Spots) (s : Standing) (m : Lines) (h :
         next = u.host.next;
         side = subst (λ (key : Key). OutSide key (o.hub y.desc.name.addr y.desc.name.num) (o.place y.desc.name.addr y.desc.name.num)
             (wired fixed w) (hand_host (in_hand s) (32 * y.queue) u.queue).toggle (hand_host (in_hand s) (32 * y.queue) u.queue).waiting
-            (concat (m.acc (32 * y.queue))) u.host.next) (sym (ap (told_key Directions.Out) u.is)) u.host.side;
+            (concat (m.acc (32 * y.queue))) u.host.next) (sym (ap (told_key
+            (kind_at o y.desc.name.addr y.desc.name.num) Directions.Out) u.is)) u.host.side;
         begins = ([], append-nil (concat (m.acc (32 * y.queue))));
         within = λ f v there its addr num.
             subst (λ (i : ℕ). IsPrefix (sent_in (concat (m.acc (32 * y.queue))) u.host.next) (concat (puts_of (queued w.driver) puts i)))
@@ -202,21 +201,6 @@ module _ (fixed : Fixed) (x : Sides) (o : Spots) (s : Standing) (m : Lines) (h :
       let v : WasIn w.driver.endpoints e z = was_end fixed x s m h w k e z here in
       subst (IsSpot o) (sym v.comes.desc) (b.spots e v.endpoint v.here)
 
-  ring_then : OpensInRing (driver_next w).driver
-  ring_then e z here bulk opening chain =
-      let v : WasIn w.driver.endpoints e z = was_end fixed x s m h w k e z here in
-      ⊎_elim
-      (λ (same : (driver_next w).driver.command ≡ w.driver.command).
-      b.ring e v.endpoint v.here (ap (λ (c : EpDesc). c.kind) (sym v.comes.desc) ∙ bulk)
-      (record {
-        kept = v.comes.alive opening.kept;
-        queue = ap (λ (c : EpDesc). is_iso c.kind) (sym v.comes.desc) ∙ opening.queue;
-        command = opening_then fixed x s m h w k v.endpoint.queue
-            (opening.command ∙ ap (λ (q : ℕ). Some (unfinished.Open q)) v.comes.queue);
-      }) (sym same ∙ chain))
-      (λ (none : (driver_next w).driver.command ≡ None). none_some unfinished.Chain (sym none ∙ chain))
-      (row_command (driver_row (driver_parts w)) (driver_parts w))
-
   fresh_then : ((q : ℕ) → (queued (driver_next w).driver).command ≡ Some (unfinished.Open q)
       → (queued w.driver).command ≡ Some (unfinished.Open q)) → AreFresh (driver_next w).driver ways.Out o.has (IsUnsent o (wired fixed w))
   fresh_then opening =
@@ -252,7 +236,8 @@ module _ (fixed : Fixed) (x : Sides) (o : Spots) (s : Standing) (m : Lines) (h :
 
     its_then : IsMetOut o (wired fixed w) (concat (m.acc (32 * v.endpoint.queue))) (concat (puts_of (queued w.driver) puts e)) t v.endpoint
     its_then =
-        let r = step_keeps_out_behind (λ addr ep. false) (λ addr ep. false) (λ i. false) (λ i. i == n) s.ends s t w new (wired fixed w)
+        let r = step_keeps_out_behind (kind_at o y.desc.name.addr y.desc.name.num) (λ addr ep. false) (λ addr ep. false) (λ i. false)
+        (λ i. i == n) s.ends s t w new (wired fixed w)
         (o.hub y.desc.name.addr y.desc.name.num) (o.place y.desc.name.addr y.desc.name.num) (concat (m.acc n)) n (asked_as y.desc) k.mixed
         step (by_way s m w k.mixed k.telling n is_out (pays.outs e y v.here is_met.there its_way).whole)
         (publishes_start w.driver b.first) (eq-eqb n n refl) (ap s.near same ∙ near) (ap t.near same ∙ near_then) old.behind in
@@ -312,7 +297,6 @@ module _ (fixed : Fixed) (x : Sides) (o : Spots) (s : Standing) (m : Lines) (h :
     driven_behind gone_outs = record {
       ins = ins_then;
       first = driver_publishes s w k.mixed b.first;
-      ring = ring_then;
       spots = spots_then;
       hubs = b.hubs;
       met = met_then;
@@ -374,30 +358,29 @@ module _ (fixed : Fixed) (x : Sides) (o : Spots) (s : Standing) (m : Lines) (h :
       own_on : o.has y_own.desc.name.addr y_own.desc.name.num ≡ true
       own_on = ap (λ (c : EpDesc). o.has c.name.addr c.name.num) (sym desc_is) ∙ on
 
-      its_claimed : is_bulk_below y_own.desc ≡ true
+      its_claimed : is_out_below y_own.desc ≡ true
       its_claimed = claimed fixed x o s m h puts w k pays b at.number y_own its_here own_way own_on
-
-      in_ring : w.driver.command ≡ Some unfinished.Chain → ⊥
-      in_ring =
-          b.ring at.number y_own its_here (claimed_bulk y_own.desc its_claimed) (O.opening fixed x s m h w k at t alike opened mixed next)
 
       outs : IsOut (t.parts (32 * at.endpoint.queue))
       outs a u there_it active = none_active s w at a u ((opened.told.parts n_own).elements_were a u there_it) active
 
       abbrev Begins : EpDesc → ℕ → List ℕ → Type 0
-      Begins c q known = (u : IsOutBehind (wired fixed w) (o.hub c.name.addr c.name.num) (o.place c.name.addr c.name.num) known t.parts
+      Begins c q known = (u : IsOutBehind (kind_at o c.name.addr c.name.num) (wired fixed w) (o.hub c.name.addr c.name.num)
+          (o.place c.name.addr c.name.num) known t.parts
           (in_hand t) (32 * q) (asked_as c)) × (u.host.next ≡ None)
 
       its_behind : Begins y_own.desc at.endpoint.queue []
       its_behind =
-          head_opens_out (wired fixed w) (o.hub y_own.desc.name.addr y_own.desc.name.num) (o.place y_own.desc.name.addr y_own.desc.name.num)
+          head_opens_out (kind_at o y_own.desc.name.addr y_own.desc.name.num) (wired fixed w)
+          (o.hub y_own.desc.name.addr y_own.desc.name.num) (o.place y_own.desc.name.addr y_own.desc.name.num)
           t.parts
           (in_hand t) n_own (asked_as y_own.desc) (O.head_then fixed x s m h w k at t alike opened mixed next).named.queue
           (O.head_then fixed x s m h w k at t alike opened mixed next).named.head
           (O.head_then fixed x s m h w k at t alike opened mixed next).named.is (claimed_slow y_own.desc its_claimed)
           (no_control y_own.desc.kind (claimed_stream y_own.desc its_claimed)) outs
           (λ a u there_it active. none_active s w at a u ((opened.told.parts n_own).elements_were a u there_it) active)
-          (new_first s w k.mixed at in_ring t opened
+          (new_first t n_own (asked_as y_own.desc) (O.head_then fixed x s m h w k at t alike opened mixed next)
+          (no_control y_own.desc.kind (claimed_stream y_own.desc its_claimed))
           (O.head_then fixed x s m h w k at t alike opened mixed next).named.queue
           (O.head_then fixed x s m h w k at t alike opened mixed next).named.head)
           (b.hubs _ _ _ _ ((spot fixed x o s m h puts w k pays b at.number y_own its_here own_way own_on).hub own_on))
@@ -442,7 +425,6 @@ module _ (fixed : Fixed) (x : Sides) (o : Spots) (s : Standing) (m : Lines) (h :
     opened_behind = record {
       ins = ins_opened;
       first = driver_publishes s w k.mixed b.first;
-      ring = ring_then;
       spots = spots_then;
       hubs = b.hubs;
       met = met_opened;

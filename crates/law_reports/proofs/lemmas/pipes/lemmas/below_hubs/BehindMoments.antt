@@ -1,4 +1,4 @@
--- The bulk OUT endpoints below hubs stand as they must at each moment of each script.
+-- The OUT endpoints with a stream below hubs stand as they must at each moment of each script.
 use Rattle.std.proofs.Common.{◌≡◌, ℕ, List, [], ◌∷◌, slice_get, Some}
 use Rattle.std.specs.List.{AllByRecursion}
 use Rattle.law_world.proofs.Common.{lines_can}
@@ -13,13 +13,14 @@ use Rattle.drv_table.specs.declared.content.Endpoint.{Endpoint}
 use Rattle.law_scripts.proofs.lemmas.script_bytes.Texts.{a_text_spells_bytes}
 use Rattle.law_world.specs.steps.receiving_runs.Runs.{KindOfLine}
 use Rattle.law_world.specs.memory.Steps.{IsMixedNext}
-use Rattle.law_world.specs.streams.put_laws.TakenLaws.{IsKeptWithPuts}
+use Rattle.law_world.specs.steps.Streaming.{wired}
+use Rattle.law_world.specs.streams.put_laws.TakenLaws.{IsKeptWhile}
 use Rattle.law_world.specs.streams.put_laws.TakenPuts.{no_puts}
 use Rattle.law_world.proofs.lemmas.memory.Driving.{driver_tells_step}
 use Rattle.law_world.proofs.lemmas.memory.FittingTexts.{texts_open_fitting}
 use Rattle.law_world.proofs.lemmas.memory.Texts.{texts_fit}
 use Rattle.law_world.proofs.lemmas.memory.Together.{lines_fit}
-use Rattle.law_world.proofs.lemmas.streams.lemmas.put_laws.Along.{holds_with_puts}
+use Rattle.law_world.proofs.lemmas.streams.lemmas.put_laws.Along.{holds_while}
 use Rattle.law_reports.specs.lines.Lined.{Lines}
 use Rattle.law_reports.specs.lines.TellingLaws.{IsTellingNext}
 use Rattle.law_reports.proofs.lemmas.lines.Driven.{driver_keeps_telling}
@@ -27,7 +28,8 @@ use Rattle.law_reports.specs.pipes.Declared.{Sides, sides_of}
 use Rattle.law_reports.specs.pipes.Piped.{Heads, IsPiped}
 use Rattle.law_reports.specs.pipes.puts.Paid.{Pays, HasPaid}
 use Rattle.law_reports.specs.pipes.below_hubs.Behind.{Spots, IsBehind, HasBehind}
-use Rattle.law_reports.specs.pipes.below_hubs.BehindLaws.{OpensSpot, ControllerKeepsBehind, DriverKeepsBehind, CommandKeepsBehind}
+use Rattle.law_reports.specs.pipes.below_hubs.BehindLaws.{WorldFindsNoneTold, OpensSpot, ControllerKeepsBehind, DriverKeepsBehind}
+use Rattle.law_reports.specs.pipes.below_hubs.BehindLaws.{CommandKeepsBehind}
 use Rattle.law_reports.specs.pipes.below_hubs.BehindLaws.{spots_of, NewWorldIsBehind, ScriptsAreBehind, TextsAreBehind}
 use Rattle.law_reports.proofs.lemmas.pipes.Commanded.{commanded_piped}
 use Rattle.law_reports.proofs.lemmas.pipes.Controlled.{controlled}
@@ -49,17 +51,18 @@ use Rattle.bus_world.specs.World.{World, driver_next}
 use Rattle.law_world.specs.memory.Mixed.{Standing, IsMixedAt}
 use Rattle.law_world.specs.memory.Steps.{QueueStep, stays, harvests, returns, lends, stores, mends, begins, opens, unlinks, narrows, goes}
 use Rattle.law_world.specs.memory.pipe_steps.Laws.{IsNoOpening}
+use Rattle.law_reports.proofs.lemmas.pipes.lemmas.below_hubs.FreshStarts.{texts_find_none_told}
 
 -- ---- each event and each command
 
 pub controller_keeps_behind : ControllerKeepsBehind
-controller_keeps_behind fixed x o puts w k = record {
+controller_keeps_behind fixed x o puts w finds k = record {
   standing = _;
   lines = _;
   heads = k.heads;
   piped = controlled fixed x k.standing k.lines k.heads w k.piped;
   pays = controlled_pays fixed x k.standing k.lines k.heads puts w k.piped k.pays;
-  behind = controlled_behind fixed x o k.standing k.lines k.heads puts w k.piped k.pays k.behind;
+  behind = controlled_behind fixed x o k.standing k.lines k.heads puts w k.piped k.pays k.behind finds;
 }
 
 module _ (fixed : Fixed) (x : Sides) (o : Spots) (s : Standing) (m : Lines) (h : Heads) (puts : ℕ → List ℕ) (w : World)
@@ -129,7 +132,6 @@ new_world_is_behind s fit bytes unsent =
       behind = record {
         ins = λ e y here there way. absurd (none_there s e y here);
         first = tt;
-        ring = λ e y here bulk opening chain. absurd (none_there s e y here);
         spots = λ e y here. absurd (none_there s e y here);
         hubs = λ hub port i place at. at;
         met = λ e y here way on is_met. absurd (none_there s e y here);
@@ -152,24 +154,26 @@ kinds_both A B [] can ones = tt
 kinds_both A B (l ∷ ls) can ones = (kind_both A B l.1 can.0 ones.0, kinds_both A B ls can.1 ones.1)
 
 is_kept : (s : Script)
-    → IsKeptWithPuts (fixed_of s) (CanBeBehind (sides_of s) (spots_of s))
+    → IsKeptWhile (fixed_of s) (CanBeBehind (sides_of s) (spots_of s)) (λ w. WorldFindsNoneTold (wired (fixed_of s) w) w)
     (λ w puts. HasBehind (fixed_of s) (sides_of s) (spots_of s) puts w)
 is_kept s = record {
   driver = λ w puts k. driver_keeps_behind (fixed_of s) (sides_of s) (spots_of s) puts w k;
-  controller = λ w puts k. controller_keeps_behind (fixed_of s) (sides_of s) (spots_of s) puts w k;
+  controller = λ w puts finds k. controller_keeps_behind (fixed_of s) (sides_of s) (spots_of s) puts w finds k;
   command = λ w line cmd puts can room k.
       command_keeps_behind (fixed_of s) (sides_of s) (spots_of s) puts w line cmd can.0.0.0 can.0.0.1 can.1 can.0.1 room k;
 }
 
 pub scripts_are_behind : ScriptsAreBehind
-scripts_are_behind s fit bytes fits declares spots unsent k =
-    holds_with_puts (CanBeBehind (sides_of s) (spots_of s)) (λ w puts. HasBehind (fixed_of s) (sides_of s) (spots_of s) puts w) s fit
+scripts_are_behind s fit bytes fits declares spots unsent finds k =
+    holds_while (CanBeBehind (sides_of s) (spots_of s)) (λ w. WorldFindsNoneTold (wired (fixed_of s) w) w) (λ w puts. HasBehind
+    (fixed_of s) (sides_of s) (spots_of s) puts w) s fit
     (kinds_both (CanBePaid (sides_of s)) (OpensSpot (spots_of s)) s.lines
     (lines_paid (sides_of s) s.lines (lines_both (sides_of s) s.lines (lines_can s.lines fits) declares) bytes.lines) spots)
-    (new_world_is_behind s fit bytes unsent) (is_kept s) k
+    (new_world_is_behind s fit bytes unsent) (is_kept s) k (λ j low. finds j)
 
 pub texts_are_behind : TextsAreBehind
 texts_are_behind text s spelled =
     let t = texts_open_spots text s spelled in
     scripts_are_behind s (spelled_fits text s spelled) (a_text_spells_bytes text s spelled)
     (lines_fit s.lines (texts_fit text s spelled) (texts_open_fitting text s spelled)) (texts_declare text s spelled) t.0 t.1
+    (texts_find_none_told text s spelled)

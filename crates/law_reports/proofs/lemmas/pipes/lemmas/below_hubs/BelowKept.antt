@@ -6,7 +6,8 @@ use Rattle.bus_wire.specs.Bus.{fixed_of}
 use Rattle.bus_world.specs.Budgets.{moment}
 use Rattle.bus_world.specs.Opening.{opening_world}
 use Rattle.bus_world.specs.Orders.{at_place, orders_of}
-use Rattle.claims_world.specs.BelowStreams.{AreBelowTakenStreams, AreBelowSentStreams, AreBelowStreams, AreBelowInStreams, IsSparedAt}
+use Rattle.claims_world.specs.BelowStreams.{AreBelowTakenStreams, AreBelowSentStreams, AreBelowStreams, AreBelowInStreams}
+use Rattle.claims_world.specs.BelowStreams.{IsSparedAt, IsSparedBefore, LeavesTranslator, LeftInsAreRight}
 use Rattle.claims_world.specs.Streams.{report_of}
 use Rattle.claims_world.specs.BelowStreams.{BelowOutsAreTaken, BelowOutsAreSent, BelowStreamsEndRight}
 use Rattle.law_world.specs.streams.put_laws.TakenLaws.{StreamsArePuts}
@@ -19,10 +20,11 @@ use Rattle.law_reports.specs.pipes.below_hubs.BelowLaws.{TextsKeepBelowStreams, 
 use Rattle.law_reports.specs.pipes.high_streams.Names.{HasItsNames}
 use Rattle.law_reports.proofs.lemmas.pipes.lemmas.below_hubs.BehindMoments.{texts_are_behind}
 use Rattle.law_reports.proofs.lemmas.pipes.lemmas.below_hubs.BelowReporting.{below_taken, below_sent, below_right}
-use Rattle.law_reports.proofs.lemmas.pipes.lemmas.below_hubs.InwardReporting.{texts_keep_ins_below, spared_more}
+use Rattle.law_reports.proofs.lemmas.pipes.lemmas.below_hubs.InwardReporting.{texts_keep_ins_below, asking_more}
 use Rattle.law_reports.proofs.lemmas.pipes.lemmas.high_streams.AfterRuns.{after_run, at_end}
 use Rattle.law_reports.proofs.lemmas.pipes.lemmas.high_streams.Names.{texts_have_names}
 use Rattle.law_reports.proofs.lemmas.pipes.lemmas.high_streams.Opened.{moments_are_opened}
+use Rattle.law_reports.proofs.lemmas.pipes.lemmas.hub_setups.Moments.{lines_spare_hubs}
 use Rattle.law_reports.proofs.lemmas.pipes.lemmas.puts.PaidMoments.{texts_keep_all_high_streams}
 
 module _ (text : List ℕ) (s : Script) (spelled : Spells text s) where
@@ -50,17 +52,25 @@ module _ (text : List ℕ) (s : Script) (spelled : Spells text s) where
       below_right s (moment s k) (puts_at s k) (texts_are_behind text s spelled k) (moments_are_opened s names.fit k) names (seated k)
       (puts k) none
 
+  left : LeftInsAreRight s
+  left k =
+      asking_more s (λ x. IsSparedBefore s x k) (LeavesTranslator s) (report_of (fixed_of s) (moment s k).world)
+      (λ x leaves j low. lines_spare_hubs text s x spelled leaves j) (texts_keep_ins_below text s spelled k)
+
 pub texts_keep_below_streams : TextsKeepBelowStreams
 texts_keep_below_streams text s spelled = record {
   taken_throughout = taken text s spelled;
   sent_throughout = sent text s spelled;
   at_the_end = ends_right text s spelled;
   ins_throughout = texts_keep_ins_below text s spelled;
+  left_throughout = left text s spelled;
   taken = after_run (AreBelowTakenStreams s) s (taken text s spelled);
   sent = after_run (AreBelowSentStreams s) s (sent text s spelled);
   all = at_end (AreBelowStreams s) s (ends_right text s spelled);
   ins = after_run (AreBelowInStreams s (λ x. (k : ℕ) → IsSparedAt s x k)) s (λ k.
-      spared_more s k (report_of (fixed_of s) (moment s k).world) (texts_keep_ins_below text s spelled k));
+      asking_more s (λ x. IsSparedBefore s x k) (λ x. (j : ℕ) → IsSparedAt s x j) (report_of (fixed_of s) (moment s k).world)
+      (λ x spared j low. spared j) (texts_keep_ins_below text s spelled k));
+  left_ins = after_run (AreBelowInStreams s (LeavesTranslator s)) s (left text s spelled);
 }
 
 pub texts_keep_streams : TextsKeepStreams

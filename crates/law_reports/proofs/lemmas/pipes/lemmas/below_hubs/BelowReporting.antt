@@ -25,7 +25,7 @@ use Rattle.claims_report.specs.Streams.{opened, stream, told, told_in, has_strea
 use Rattle.claims_driver.specs.Scripts.{receives}
 use Rattle.claims_world.specs.Ends.{IsEndedOnce}
 use Rattle.claims_world.specs.Streams.{report_of, IsToldTaken, IsTakenStream, IsTakenSent}
-use Rattle.claims_world.specs.BelowStreams.{is_bulk_below, has_hub, is_claimed_below}
+use Rattle.claims_world.specs.BelowStreams.{is_out_below, has_hub, is_claimed_below}
 use Rattle.claims_world.specs.BelowStreams.{AreBelowTakenStreams, AreBelowSentStreams, AreBelowStreams}
 use Rattle.drv_table.specs.declared.content.Command.TheVariants as unfinished
 use Rattle.drv_table.specs.declared.content.Endpoint.{Endpoint}
@@ -137,8 +137,8 @@ module _ (s : Script) (p : OrderedWorld) (puts : ℕ → List ℕ)
   Left = HasLeft (spots_of s) (wired (fixed_of s) p.world) (Within puts p.world.driver)
 
   module _ (x : EpDesc) (claims : is_claimed_below s x ≡ true) (seat : IsSeated s x) where
-    bulk : is_bulk_below x ≡ true
-    bulk = (and_parts (is_bulk_below x) (has_hub s x.hub x.port) claims).0
+    bulk : is_out_below x ≡ true
+    bulk = (and_parts (is_out_below x) (has_hub s x.hub x.port) claims).0
 
     streams : has_stream x.kind ≡ true
     streams = claimed_stream x bulk

@@ -1,4 +1,4 @@
--- Each bulk OUT endpoint that a text opens below a hub of it is at its spot, and before the first line nothing was sent of it.
+-- Each OUT endpoint with a stream that a text opens below a hub of it is at its spot, and before the first line nothing was sent of it.
 use Rattle.std.proofs.Common.{◌≡◌, ◌≢◌, ℕ, zero, suc, ◌<◌, ◌≤◌, ◌-◌, Bool, true, false, List, [], ◌∷◌, length, Option, Some, None}
 use Rattle.std.proofs.Common.{refl, sym, ap}
 use Rattle.std.proofs.Common.{subst, ◌∙◌, inl, inr, arith}
@@ -24,12 +24,15 @@ use Rattle.script_types.specs.declared.scripts.Script.{Script}
 use Rattle.script_world.specs.Draft.{Draft, device_of, script_of}
 use Rattle.script_text.specs.Faults.{Spells}
 use Rattle.endpoint_script.specs.Device.{opened_part}
+use Rattle.hub_keys.specs.declared.key.Key.{Key}
 use Rattle.hub_class.specs.HubContent.{HubContent}
 use Rattle.hub_class.specs.HubContent as Hubs
 use Rattle.multi_tt.specs.Translators.{place_of as served_at}
 use Rattle.bus_wire.specs.Bus.{opening_bus, opening_wired}
 use Rattle.claims_driver.specs.Scripts.{receives}
-use Rattle.claims_world.specs.BelowStreams.{is_bulk, is_bulk_below, has_port, has_hub, is_claimed_below}
+use Rattle.claims_report.specs.Streams.{has_stream}
+use Rattle.claims_world.specs.BelowStreams.{is_out_below, has_port, has_hub, is_claimed_below}
+use Rattle.drv_periodic_table.specs.Periodic.{is_periodic}
 use Rattle.drv_table.specs.Words.{is_high}
 use Rattle.law_driver.proofs.Common.{out_way}
 use Rattle.law_driver.specs.queued_drivers.Queued.{IsOfWay, FitsKind}
@@ -44,8 +47,9 @@ use Rattle.law_devices.proofs.lemmas.declared_controls.Controls.{texts_name_endp
 use Rattle.law_devices.proofs.lemmas.declared_controls.Names.{control_zero}
 use Rattle.law_opened.specs.Opened.{IsOpened}
 use Rattle.law_opened.proofs.Opened.{declared_by, known, texts_open_once, texts_open_fit}
-use Rattle.law_translated.specs.Lift.{Buffered, Empty}
+use Rattle.law_translated.specs.Lift.{Empty}
 use Rattle.law_translated.specs.OutPipes.{out_opening}
+use Rattle.law_below_hubs.specs.HostOuts.{its_way}
 use Rattle.law_below_hubs.specs.HubsKeys.{HubsHave}
 use Rattle.law_below_hubs.specs.OutWork.{IsPut, taker_of_line}
 use Rattle.law_below_hubs.specs.Opening.{translators_of}
@@ -55,11 +59,11 @@ use Rattle.law_below_hubs.proofs.HostOpens.{out_opens}
 use Rattle.law_below_hubs.proofs.Opening.{opens_without_keys, opens_right}
 use Rattle.law_world.specs.steps.receiving_runs.Runs.{KindOfLine}
 use Rattle.law_reports.specs.pipes.Piped.{asked_as}
-use Rattle.law_reports.specs.pipes.below_hubs.Behind.{IsSpot, IsSpotBy, IsOutSpot, out_at}
+use Rattle.law_reports.specs.pipes.below_hubs.Behind.{IsSpot, IsSpotBy, IsOutSpot, stream_kind, its_key}
 use Rattle.law_reports.specs.pipes.below_hubs.BehindLaws.{OpensSpot, opens_below, desc_in, desc_below, hub_of, translator_of}
 use Rattle.law_reports.specs.pipes.below_hubs.BehindLaws.{place_of, spots_of}
 use Rattle.law_reports.specs.pipes.below_hubs.BehindLaws.{OpensSpots, OpensUnsent, TextsOpenSpots}
-use Rattle.law_reports.proofs.lemmas.pipes.lemmas.below_hubs.BehindControlled.{claimed_bulk}
+use Rattle.law_reports.proofs.lemmas.pipes.lemmas.below_hubs.BehindControlled.{claimed_stream}
 use Rattle.law_reports.proofs.lemmas.pipes.lemmas.below_hubs.BelowTakers.{taker_is, no_zero}
 
 -- ---- which line opens it
@@ -230,7 +234,7 @@ module _ (s : Script) (port hub : ℕ) (t : HubText) (found : find (λ (h : HubT
         (subst (λ (n : ℕ). translator_of port t < (if t.multi then n else 1)) (sym its.long) (less_by t.multi refl)));
   }
 
-pub slow_is : (x : EpDesc) → is_bulk_below x ≡ true → is_high x.speed ≡ false
+pub slow_is : (x : EpDesc) → is_out_below x ≡ true → is_high x.speed ≡ false
 slow_is x is = by (is_high x.speed) refl
   where
     by : (b : Bool) → is_high x.speed ≡ b → is_high x.speed ≡ false
@@ -239,26 +243,26 @@ slow_is x is = by (is_high x.speed) refl
       where
         bad : is_high x.speed ≡ true → ⊥
         bad high =
-            let both = and_parts (is_bulk x.kind) (not (is_high x.speed) && not (receives x.name.way)) is in
+            let both = and_parts (has_stream x.kind) (not (is_high x.speed) && not (receives x.name.way)) is in
             let fast = (and_parts (not (is_high x.speed)) (not (receives x.name.way)) both.1).0 in
             true≢false (sym fast ∙ ap not high)
 
-pub claimed_out : (x : EpDesc) → is_bulk_below x ≡ true → x.name.way ≡ ways.Out
+pub claimed_out : (x : EpDesc) → is_out_below x ≡ true → x.name.way ≡ ways.Out
 claimed_out x is =
     out_way x.name.way (by (receives x.name.way) refl)
   where
     by : (b : Bool) → receives x.name.way ≡ b → receives x.name.way ≡ false
     by false off = off
     by true on =
-        let both = and_parts (is_bulk x.kind) (not (is_high x.speed) && not (receives x.name.way)) is in
+        let both = and_parts (has_stream x.kind) (not (is_high x.speed) && not (receives x.name.way)) is in
         let leaves = (and_parts (not (is_high x.speed)) (not (receives x.name.way)) both.1).1 in
         absurd (true≢false (sym leaves ∙ ap not on))
 
 pub hub_there : (s : Script) (d : EpDesc) → is_claimed_below s d ≡ true → HasItsHub s d
 hub_there s d claims = by d.hub refl
   where
-    both : (is_bulk_below d ≡ true) × (has_hub s d.hub d.port ≡ true)
-    both = and_parts (is_bulk_below d) (has_hub s d.hub d.port) claims
+    both : (is_out_below d ≡ true) × (has_hub s d.hub d.port ≡ true)
+    both = and_parts (is_out_below d) (has_hub s d.hub d.port) claims
 
     found : (hub : ℕ) (o : Option HubText) → d.hub ≡ Some hub → find (λ (h : HubText). h.addr == hub) s.hubs ≡ o
         → option_map_or (has_port d.port) o false ≡ true → HasItsHub s d
@@ -270,26 +274,36 @@ hub_there s d claims = by d.hub refl
     by (Some hub) is =
         found hub (find (λ (h : HubText). h.addr == hub) s.hubs) is refl (sym (ap (λ (o : Option ℕ). has_hub s o d.port) is) ∙ both.1)
 
+kind_of : (kind : EpKind) → has_stream kind ≡ true → kind ≡ stream_kind (is_periodic kind)
+kind_of kinds.Bulk streams = refl
+kind_of kinds.Interrupt streams = refl
+kind_of kinds.Control streams = absurd (false≢true streams)
+kind_of kinds.Iso streams = absurd (false≢true streams)
+
 -- ---- its device
 
 record IsUntakenOut (s : Script) (x : EpDesc) : Type 0 where
   taker : taker_at (opening_wired s) x.name.addr x.name.num ≡ Some (taker_of_line out_opening)
   number : x.name.num ≢ 0
 
-takes_none : (kind : EpKind) (v : Way) (t : EpText) → v ≡ ways.Out → kind ≡ kinds.Bulk
+takes_none : (kind : EpKind) (v : Way) (t : EpText) → v ≡ ways.Out → has_stream kind ≡ true
     → taker_of_part (opened_part v kind t) ≡ Some (taker_of_line out_opening)
-takes_none kinds.Bulk ways.Out t way bulk = refl
-takes_none _ _ t way bulk = cc
+takes_none kinds.Bulk ways.Out t way streams = refl
+takes_none kinds.Interrupt ways.Out t way streams = refl
+takes_none _ ways.In t way streams = absurd cc
+takes_none _ ways.Ctl t way streams = absurd cc
+takes_none kinds.Control ways.Out t way streams = absurd (false≢true streams)
+takes_none kinds.Iso ways.Out t way streams = absurd (false≢true streams)
 
 of_draft : (w : Draft) (x : EpDesc) → IsDeclaredDraft w → AreZeroesAlone (opening_bus (script_of w)) → IsKnownDesc w.devices x
-    → x.name.way ≡ ways.Out → x.kind ≡ kinds.Bulk → IsUntakenOut (script_of w) x
+    → x.name.way ≡ ways.Out → has_stream x.kind ≡ true → IsUntakenOut (script_of w) x
 of_draft w x h alone (inl control) way bulk = absurd (other (sym way ∙ control))
   where
     other : ways.Out ≡ ways.Ctl → ⊥
     other e = cc
 of_draft w x h alone (inr n) way bulk =
     let k = declared_by w.devices n.name x (device_of w.devices n.name.addr) refl n.here in
-    subst (λ (d : EpDesc). d.name.way ≡ ways.Out → d.kind ≡ kinds.Bulk → IsUntakenOut (script_of w) d) k.desc
+    subst (λ (d : EpDesc). d.name.way ≡ ways.Out → has_stream d.kind ≡ true → IsUntakenOut (script_of w) d) k.desc
     (λ out kind. record {
       taker = taker_is w h n.name x k out ∙ takes_none k.text.desc.kind k.text.desc.name.way k.text out kind;
       number = no_zero w h n.name x k out alone;
@@ -301,7 +315,7 @@ module _ (text : List ℕ) (s : Script) (spelled : Spells text s) where
   drafted : IsScriptOf IsDeclaredDraft s
   drafted = spelled_kept IsDeclaredDraft empty_declared second_declared line_declares text s spelled
 
-  out_of : (x : EpDesc) → IsOpened s x → x.name.way ≡ ways.Out → x.kind ≡ kinds.Bulk → IsUntakenOut s x
+  out_of : (x : EpDesc) → IsOpened s x → x.name.way ≡ ways.Out → has_stream x.kind ≡ true → IsUntakenOut s x
   out_of x o way bulk =
       let zero : AreZeroesAlone (opening_bus s) = texts_leave_zero_alone text s spelled in
       subst (λ (z : Script). IsUntakenOut z x) drafted.is
@@ -311,7 +325,7 @@ module _ (text : List ℕ) (s : Script) (spelled : Spells text s) where
   -- one name is that of one endpoint
   same_desc : (x : EpDesc) → IsOpened s x → x.name.way ≡ ways.Out → (f : IsFoundBelow s x.name.addr x.name.num) → f.desc ≡ x
   same_desc x o way f =
-      let bulk : is_bulk_below f.desc ≡ true = (and_parts (is_bulk_below f.desc) (has_hub s f.desc.hub f.desc.port) f.claims).0 in
+      let bulk : is_out_below f.desc ≡ true = (and_parts (is_out_below f.desc) (has_hub s f.desc.hub f.desc.port) f.claims).0 in
       let its : f.desc.name.way ≡ ways.Out = claimed_out f.desc bulk in
       texts_open_once text s spelled f.desc x f.opened o
       (ap (λ (a : ℕ). record f.desc.name { addr = a }) f.address
@@ -324,9 +338,16 @@ module _ (text : List ℕ) (s : Script) (spelled : Spells text s) where
 
   spot_out : (x : EpDesc) → IsOpened s x → x.name.way ≡ ways.Out → IsOutSpot (spots_of s) x
   spot_out x o way = record {
-    bulk = λ on.
+    out = λ on.
         let f = found_below s x.name.addr x.name.num on in
-        ap is_bulk_below (sym (same_desc x o way f)) ∙ (and_parts (is_bulk_below f.desc) (has_hub s f.desc.hub f.desc.port) f.claims).0;
+        ap is_out_below (sym (same_desc x o way f)) ∙ (and_parts (is_out_below f.desc) (has_hub s f.desc.hub f.desc.port) f.claims).0;
+    kind = λ on.
+        let f = found_below s x.name.addr x.name.num on in
+        let is : desc_below s x.name.addr x.name.num ≡ Some x = f.is ∙ ap (λ (d : EpDesc). Some d) (same_desc x o way f) in
+        let out : is_out_below x ≡ true = ap is_out_below (sym (same_desc x o way f))
+        ∙ (and_parts (is_out_below f.desc) (has_hub s f.desc.hub f.desc.port) f.claims).0 in
+        kind_of x.kind (claimed_stream x out)
+        ∙ ap (λ (c : Option EpDesc). stream_kind (option_map_or (λ d. is_periodic d.kind) c false)) (sym is);
     hub = λ on.
         let f = found_below s x.name.addr x.name.num on in
         let is : desc_below s x.name.addr x.name.num ≡ Some x = f.is ∙ ap (λ (d : EpDesc). Some d) (same_desc x o way f) in
@@ -351,9 +372,9 @@ module _ (text : List ℕ) (s : Script) (spelled : Spells text s) where
       by false is = is
       by true is =
           let f = found_below s x.name.addr x.name.num is in
-          let bulk : is_bulk_below f.desc ≡ true = (and_parts (is_bulk_below f.desc) (has_hub s f.desc.hub f.desc.port) f.claims).0 in
+          let bulk : is_out_below f.desc ≡ true = (and_parts (is_out_below f.desc) (has_hub s f.desc.hub f.desc.port) f.claims).0 in
           let zero = control_zero x named (subst (λ (v : Way). IsOfWay v x.kind) way fits) in
-          absurd ((out_of f.desc f.opened (claimed_out f.desc bulk) (claimed_bulk f.desc bulk)).number (f.number ∙ zero.number))
+          absurd ((out_of f.desc f.opened (claimed_out f.desc bulk) (claimed_stream f.desc bulk)).number (f.number ∙ zero.number))
 
   spot_of : (x : EpDesc) → IsOpened s x → (v : Way) → x.name.way ≡ v → IsSpotBy (spots_of s) x v
   spot_of x o ways.In is = tt
@@ -383,17 +404,18 @@ module _ (text : List ℕ) (s : Script) (spelled : Spells text s) where
   unsent : OpensUnsent s
   unsent addr ep on =
       let f = found_below s addr ep on in
-      let bulk : is_bulk_below f.desc ≡ true = (and_parts (is_bulk_below f.desc) (has_hub s f.desc.hub f.desc.port) f.claims).0 in
+      let bulk : is_out_below f.desc ≡ true = (and_parts (is_out_below f.desc) (has_hub s f.desc.hub f.desc.port) f.claims).0 in
       let h = hub_there s f.desc f.claims in
-      let u = out_of f.desc f.opened (claimed_out f.desc bulk) (claimed_bulk f.desc bulk) in
+      let u = out_of f.desc f.opened (claimed_out f.desc bulk) (claimed_stream f.desc bulk) in
       let taker : taker_at (opening_wired s) addr ep ≡ Some (taker_of_line out_opening) =
       ap (λ (a : ℕ). taker_at (opening_wired s) a ep) (sym f.address) ∙ ap (taker_at (opening_wired s) f.desc.name.addr) (sym f.number)
       ∙ u.taker in
-      out_opens (out_at addr ep) ((spots_of s).hub addr ep) ((spots_of s).place addr ep) (opening_wired s)
-      (subst (λ (c : Option EpDesc). HubsHave Buffered (out_at addr ep) (option_map_or (λ d. hub_of s d.hub) c 0)
+      let key : Key = its_key (spots_of s) addr ep in
+      out_opens key ((spots_of s).hub addr ep) ((spots_of s).place addr ep) (opening_wired s)
+      (subst (λ (c : Option EpDesc). HubsHave (its_way key.kind) key (option_map_or (λ d. hub_of s d.hub) c 0)
       (option_map_or (λ d. place_of s d.hub d.port) c 0) (opening_bus s).hubs Empty) (sym f.is)
-      (opens_without_keys s Buffered (out_at addr ep) (hub_of s f.desc.hub) (place_of s f.desc.hub f.desc.port) h.text h.there h.less))
-      (opens_right (IsPut (out_at addr ep)) s) taker
+      (opens_without_keys s (its_way key.kind) key (hub_of s f.desc.hub) (place_of s f.desc.hub f.desc.port) h.text h.there h.less))
+      (opens_right (IsPut key) s) taker
 
   pub spots_there : OpensSpots s × OpensUnsent s
   spots_there =

@@ -1,6 +1,7 @@
 -- Each event of the controller leaves a pipe below a hub as it must stand, in a world with endpoints of every kind.
-use Rattle.std.proofs.Common.{◌≡◌, ℕ, ◌*◌, slice_get, Some, subst}
+use Rattle.std.proofs.Common.{◌≡◌, ℕ, ◌*◌, slice_get, Some, refl, subst}
 use Rattle.usb_base.specs.declared.packets.Dir.TheVariants as Directions
+use Rattle.usb_base.specs.declared.packets.EpKind.TheVariants as kinds
 use Rattle.usb_base.specs.declared.packets.Way.{Way}
 use Rattle.usb_base.specs.declared.packets.Way.TheVariants as ways
 use Rattle.claims_base.specs.Controller.{opening_base}
@@ -30,7 +31,7 @@ use Rattle.law_reports.specs.pipes.Piped.{asked_as}
 use Rattle.law_reports.specs.pipes.below_hubs.Controlled.{AsksItsWay, ControllerKeepsWays, ControllerKeepsOutBelow}
 use Rattle.law_reports.specs.pipes.below_hubs.Controlled.{ControllerKeepsInBelow, ControllerLeavesOut, ControllerLeavesIn}
 use Rattle.law_reports.proofs.lemmas.pipes.Names.{queue_same}
-use Rattle.law_reports.proofs.lemmas.pipes.lemmas.below_hubs.Asked.{asks_alone, iso_aside, unmet_by_frames, asks_none, iso_beside}
+use Rattle.law_reports.proofs.lemmas.pipes.lemmas.below_hubs.Asked.{asks_alone, iso_aside, walked_as, asks_none, iso_beside}
 use Rattle.law_reports.proofs.lemmas.pipes.lemmas.below_hubs.HubStays.{event_keeps_hub}
 
 -- what stands of a queue head that is met is sound
@@ -54,15 +55,16 @@ controller_keeps_ways fixed x s m h w k c ways_are e y here is_met =
     k.mixed.now.framed.runs c.event.effect (32 * y.queue)).alters) (ways_are e y here is_met)
 
 pub controller_keeps_out_below : ControllerKeepsOutBelow
-controller_keeps_out_below fixed x s m h w k ways_are c z e y one i place known b =
+controller_keeps_out_below fixed x s m h w k ways_are c z e y kind streams one i place known fresh b =
     let f = k.mixed.now.framed in
     let describing : IsDescribing w.driver s.descs s.parts =
     record { owners = f.place.sound.owners; driven = f.driven; described = f.described } in
-    event_keeps_out_behind s.near (32 * y.queue) (asked_as y.desc) i place known opening_base s.member (met w.driver s.recent) w.driver
+    event_keeps_out_behind kind s.near (32 * y.queue) (asked_as y.desc) i place known opening_base s.member (met w.driver s.recent) w.driver
     s.descs s.parts s.hand s.frame (controller_parts w) (wired fixed w) (wired fixed (controller_next fixed w)) c.event.now c.event.later
     c.event.frame_later describing f.runs c.event.effect (asked_is_near s w k.mixed)
-    (asks_alone fixed x s m h w k ways_are Directions.Out e y one) (iso_aside fixed x s m h w k ways_are Directions.Out e y one)
-    (unmet_by_frames fixed x s m h w k ways_are Directions.Out e y one) (sound_at s w k.mixed e y one.here one.met)
+    (asks_alone fixed x s m h w k ways_are Directions.Out e y kind streams one)
+    (iso_aside fixed x s m h w k ways_are Directions.Out e y kind streams one) streams
+    (walked_as fixed x s m h w k ways_are Directions.Out e y kind streams one) fresh (sound_at s w k.mixed e y one.here one.met)
     (sound_at (standing_then s w c.event) (controller_next fixed w) c.mixed e y one.here one.met)
     (event_keeps_hub s.parts (joined s.hand s.frame) (wired fixed w) (wired fixed (controller_next fixed w))
     (parts_now s.descs s.parts c.event.now) (joined c.event.later c.event.frame_later) (asked_as y.desc).hub (asked_as y.desc).port i place
@@ -76,19 +78,20 @@ controller_keeps_in_below fixed x s m h w k ways_are c z e y one packets i place
     event_keeps_in_behind packets s.near (32 * y.queue) (asked_as y.desc) i place known opening_base s.member (met w.driver s.recent)
     w.driver s.descs s.parts s.hand s.frame (controller_parts w) (wired fixed w) (wired fixed (controller_next fixed w)) c.event.now
     c.event.later c.event.frame_later describing f.runs c.event.effect (asked_is_near s w k.mixed)
-    (asks_alone fixed x s m h w k ways_are Directions.In e y one) (iso_aside fixed x s m h w k ways_are Directions.In e y one)
-    (unmet_by_frames fixed x s m h w k ways_are Directions.In e y one) (sound_at s w k.mixed e y one.here one.met)
+    (asks_alone fixed x s m h w k ways_are Directions.In e y kinds.Bulk refl one)
+    (iso_aside fixed x s m h w k ways_are Directions.In e y kinds.Bulk refl one)
+    (walked_as fixed x s m h w k ways_are Directions.In e y kinds.Bulk refl one) (sound_at s w k.mixed e y one.here one.met)
     (sound_at (standing_then s w c.event) (controller_next fixed w) c.mixed e y one.here one.met)
     (event_keeps_hub s.parts (joined s.hand s.frame) (wired fixed w) (wired fixed (controller_next fixed w))
     (parts_now s.descs s.parts c.event.now) (joined c.event.later c.event.frame_later) (asked_as y.desc).hub (asked_as y.desc).port i place
     z b.hub) spares z b
 
 pub controller_leaves_out : ControllerLeavesOut
-controller_leaves_out fixed x s m h w k ways_are c z t u i place h_now waiting known next side =
-    unasked_leaves_out s.near t i place s.descs s.parts (in_hand s) (wired fixed w) (wired fixed (controller_next fixed w))
+controller_leaves_out fixed x s m h w k ways_are c z t u kind streams i place h_now waiting known next side =
+    unasked_leaves_out kind s.near t i place s.descs s.parts (in_hand s) (wired fixed w) (wired fixed (controller_next fixed w))
     (parts_now s.descs s.parts c.event.now) (joined c.event.later c.event.frame_later) h_now waiting known next
     (asked_is_near s w k.mixed) (asks_none fixed x s m h w k ways_are Directions.Out t u)
-    (iso_beside fixed x s m h w k ways_are Directions.Out t u) z side
+    (iso_beside fixed x s m h w k ways_are Directions.Out t u) streams z side
 
 pub controller_leaves_in : ControllerLeavesIn
 controller_leaves_in fixed x s m h w k ways_are c z t u packets i place h_now waiting going known spares side =

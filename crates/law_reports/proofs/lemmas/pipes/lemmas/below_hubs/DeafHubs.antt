@@ -3,11 +3,9 @@ use Rattle.std.proofs.Common.{◌≡◌, ℕ, zero, suc, ◌==◌, Bool, true, f
 use Rattle.std.proofs.Common.{Some, None, ap, refl, sym, subst, ◌∙◌}
 use Rattle.std.specs.Prelude.{◌&&◌}
 use Rattle.std.specs.List.{AllByRecursion}
-use Rattle.std.specs.Option.{option_map_or}
 use Rattle.std.proofs.lemmas.Bool.{and_parts, eqb-true}
-use Rattle.law_common.proofs.Lists.{nth_all, push_which}
-use Rattle.usb_base.specs.declared.commands.Cmd.{Cmd}
-use Rattle.usb_base.specs.declared.endpoints.EpDesc.{EpDesc}
+use Rattle.law_common.proofs.Lists.{nth_all}
+use Rattle.usb_base.specs.declared.packets.EpKind.TheVariants as kinds
 use Rattle.usb_base.specs.declared.packets.Ask.{Ask}
 use Rattle.usb_base.specs.declared.packets.Dir.{Dir}
 use Rattle.usb_base.specs.declared.packets.Dir.TheVariants as Directions
@@ -15,7 +13,7 @@ use Rattle.usb_base.specs.declared.packets.Split.{Split}
 use Rattle.usb_base.specs.declared.packets.Split.TheVariants.{Plain, Start, Complete}
 use Rattle.usb_base.specs.declared.packets.Way.TheVariants as ways
 use Rattle.hub_keys.specs.Keys.{direction_of}
-use Rattle.dev_control.specs.Stages.{setup_of, token_of, stages_acked, stages_after}
+use Rattle.dev_control.specs.Stages.{token_of, stages_acked, stages_after}
 use Rattle.hub_ports.specs.declared.rows.HubRequest.{HubRequest}
 use Rattle.hub_ports.specs.declared.rows.HubRequest.TheVariants as hub_requests
 use Rattle.hub_class.specs.HubContent.{HubContent}
@@ -31,7 +29,6 @@ use Rattle.bus_wire.specs.declared.who_heard.WhoHeard.TheVariants as heard
 use Rattle.bus_wire.specs.Asking.{hub_after, translator_after, put_at}
 use Rattle.bus_wire.specs.Below.{Floor, hubs_worked, floor_left}
 use Rattle.bus_wire.specs.Bus.{Bus, Wired, Fixed, floor_of, asked_of, bus_row, changed_by, after_at}
-use Rattle.drv_table.specs.declared.content.Endpoint.{Endpoint}
 use Rattle.law_below_hubs.specs.HostEvents.{told_key}
 use Rattle.law_below_hubs.specs.HostOpens.{AsksNone}
 use Rattle.law_below_hubs.specs.HostOuts.{IsOfOther}
@@ -174,7 +171,8 @@ event_deaf a parts hand wire after now later beside asks (moved (grows m each g)
 abbrev zero_of : ℕ → Told
 zero_of a = record { addr = a; ep = 0; speed = 0; max = 0; dtc = false; hub = 0; port = 0 }
 
-both_ways : (a : ℕ) (ask : Ask) → IsOfOther (told_key Directions.In (zero_of a)) ask → IsOfOther (told_key Directions.Out (zero_of a)) ask
+both_ways : (a : ℕ) (ask : Ask) → IsOfOther (told_key kinds.Bulk Directions.In (zero_of a)) ask → IsOfOther
+    (told_key kinds.Bulk Directions.Out (zero_of a)) ask
     → IsNotFor a ask
 both_ways a ask inward outward = by (direction_of ask.pid) refl
   where
@@ -201,12 +199,13 @@ module _ (fixed : Fixed) (x : Sides) (o : Spots) (s : Standing) (m : Lines) (h :
 
   asked_other : (dir : Dir) → AsksNone dir s.near s.parts (zero_of a) → (after : Wired) (later : Hand)
       → (t : Asks transacts_by s.parts (in_hand s) (wired fixed w) after later)
-      → IsOfOther (told_key dir (zero_of a)) (call_in (transaction_of t.kind t.copy.queue) t.out t.last).ask
+      → IsOfOther (told_key kinds.Bulk dir (zero_of a)) (call_in (transaction_of t.kind t.copy.queue) t.out t.last).ask
   asked_other dir asks after later t =
       let u = asks t.copy.at (asked_is_near s w k.mixed t.copy t.in_hand t.here t.works) in
       let is : u.0 ≡ endpoint_of t.copy.queue = u.1.is
       ∙ ap endpoint_of (found_queue (s.parts t.copy.at t.copy.at) u.1.queue t.copy.queue u.1.head t.here) in
-      asks_other dir (s.parts t.copy.at) t.copy.at t.copy.queue t.kind t.out t.last (zero_of a) u.0 t.part_is t.here t.works is u.2
+      asks_other kinds.Bulk dir (s.parts t.copy.at) t.copy.at t.copy.queue t.kind t.out t.last
+      (zero_of a) u.0 t.part_is t.here t.works is u.2
 
   pub controlled_deaf : AllByRecursion (IsUnheard a) (wired fixed w).bus.hubs
       → AllByRecursion (IsUnheard a) (wired fixed (controller_next fixed w)).bus.hubs

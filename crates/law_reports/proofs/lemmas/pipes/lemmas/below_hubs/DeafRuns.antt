@@ -1,25 +1,21 @@
 -- A hub hears no request at any moment of a script that doesn't open its endpoint 0.
-use Rattle.std.proofs.Common.{◌≡◌, ℕ, false, List, [], ◌∷◌, map, length, slice_get, Option, Some, None, Result, Ok, Err, ap, refl}
+use Rattle.std.proofs.Common.{◌≡◌, ℕ, false, List, [], ◌∷◌, map, length, slice_get, Option, Some, Result, Ok, Err, ap, refl}
 use Rattle.std.proofs.Common.{sym, subst, ◌∙◌, ⊎_elim}
 use Rattle.std.specs.List.{AllByRecursion}
 use Rattle.std.specs.Option.{option_map_or}
-use Rattle.std.proofs.lemmas.Option.{same_Some}
 use Rattle.law_common.proofs.Lists.{push_which}
 use Rattle.law_world.proofs.Common.{lines_can}
 use Rattle.usb_base.specs.declared.commands.Cmd.{Cmd}
 use Rattle.usb_base.specs.declared.endpoints.EpDesc.{EpDesc}
 use Rattle.usb_base.specs.declared.reports.OfferError.{OfferError}
 use Rattle.script_types.specs.declared.devices.HubText.{HubText}
-use Rattle.script_types.specs.declared.scripts.Line.{Line}
-use Rattle.script_types.specs.declared.scripts.Line.TheVariants as lines
 use Rattle.script_types.specs.declared.scripts.Script.{Script}
 use Rattle.script_fits.proofs.Texts.{spelled_fits}
 use Rattle.script_text.specs.Faults.{Spells}
-use Rattle.dev_control.specs.Stages.{setup_of}
 use Rattle.hub_class.specs.HubContent.{HubContent}
 use Rattle.hub_class.specs.HubContent as Hubs
 use Rattle.bus_wire.specs.Bus.{Fixed, fixed_of}
-use Rattle.claims_world.specs.BelowStreams.{clears_translator, heard_clear, IsSparedAt}
+use Rattle.claims_world.specs.BelowStreams.{clears_translator, heard_clear}
 use Rattle.drv_table.specs.declared.content.Endpoint.{Endpoint}
 use Rattle.drv_table.specs.Accepting.{Offered}
 use Rattle.drv_table.specs.Offers.{offered}
@@ -27,19 +23,17 @@ use Rattle.law_driver.proofs.lemmas.queued_drivers.CommandReasons.{reason_of}
 use Rattle.law_scripts.proofs.lemmas.script_bytes.Texts.{a_text_spells_bytes}
 use Rattle.law_world.specs.steps.receiving_runs.Runs.{KindOfLine}
 use Rattle.law_world.specs.steps.Streaming.{wired}
-use Rattle.law_world.specs.streams.put_laws.TakenLaws.{IsKeptWithPuts}
-use Rattle.law_world.specs.streams.put_laws.TakenPuts.{no_puts}
+use Rattle.law_world.specs.streams.put_laws.TakenLaws.{IsKeptWhile}
 use Rattle.law_world.proofs.lemmas.memory.FittingTexts.{texts_open_fitting}
 use Rattle.law_world.proofs.lemmas.memory.Texts.{texts_fit}
 use Rattle.law_world.proofs.lemmas.memory.Together.{lines_fit}
-use Rattle.law_world.proofs.lemmas.streams.lemmas.put_laws.Along.{holds_with_puts}
+use Rattle.law_world.proofs.lemmas.streams.lemmas.put_laws.Along.{holds_while}
 use Rattle.bus_world.specs.Budgets.{moment}
-use Rattle.bus_world.specs.Opening.{opening_world}
-use Rattle.bus_world.specs.World.{World, name_in, driver_next, controller_next, commanded, commanded_by}
+use Rattle.bus_world.specs.World.{World, name_in, commanded_by}
 use Rattle.law_reports.specs.pipes.Declared.{Sides, sides_of}
 use Rattle.law_reports.specs.pipes.below_hubs.Behind.{Spots, HasBehind}
 use Rattle.law_reports.specs.pipes.below_hubs.BehindLaws.{OpensSpot, spots_of}
-use Rattle.law_reports.specs.pipes.below_hubs.DeafLaws.{IsUnheard, NamesNone, OpensNone, IsUnopenedHub, UnopenedHubsAreSpared}
+use Rattle.law_reports.specs.pipes.below_hubs.DeafLaws.{IsUnheard, NamesNone, OpensNone, UnopenedHubsAreSpared}
 use Rattle.law_reports.proofs.lemmas.pipes.Accepted.{EndsThen, one_more, one_anew, ends_then, was_anew}
 use Rattle.law_reports.proofs.lemmas.pipes.Across.{WasIn}
 use Rattle.law_reports.proofs.lemmas.pipes.DeclaredOpens.{texts_declare}
@@ -51,6 +45,8 @@ use Rattle.law_reports.proofs.lemmas.pipes.lemmas.below_hubs.BehindMoments.{comm
 use Rattle.law_reports.proofs.lemmas.pipes.lemmas.below_hubs.BelowTexts.{texts_open_spots}
 use Rattle.law_reports.proofs.lemmas.pipes.lemmas.below_hubs.DeafHubs.{controlled_deaf}
 use Rattle.law_reports.proofs.lemmas.pipes.lemmas.puts.PaidMoments.{CanBePaid, lines_paid}
+use Rattle.law_reports.specs.pipes.below_hubs.BehindLaws.{WorldFindsNoneTold}
+use Rattle.law_reports.proofs.lemmas.pipes.lemmas.below_hubs.FreshStarts.{texts_find_none_told}
 
 record HasDeaf (fixed : Fixed) (x : Sides) (o : Spots) (a : ℕ) (puts : ℕ → List ℕ) (w : World) : Type 0 where
   behind : HasBehind fixed x o puts w
@@ -84,7 +80,8 @@ new_deaf : (a : ℕ) (hs : List HubText) → AllByRecursion (IsUnheard a) (map H
 new_deaf a [] = tt
 new_deaf a (h ∷ hs) = ((λ same. refl), new_deaf a hs)
 
-is_kept : (s : Script) (a : ℕ) → IsKeptWithPuts (fixed_of s) (CanBeDeaf (sides_of s) (spots_of s) a)
+is_kept : (s : Script) (a : ℕ) → IsKeptWhile (fixed_of s) (CanBeDeaf (sides_of s) (spots_of s) a)
+    (λ w. WorldFindsNoneTold (wired (fixed_of s) w) w)
     (λ w puts. HasDeaf (fixed_of s) (sides_of s) (spots_of s) a puts w)
 is_kept s a = record {
   driver = λ w puts k. record {
@@ -95,8 +92,8 @@ is_kept s a = record {
         subst (λ (d : EpDesc). d.name.addr ≡ a → d.name.num ≡ 0 → ⊥) (sym v.comes.desc) (k.none e v.endpoint v.here);
     hubs = k.hubs;
   };
-  controller = λ w puts k. record {
-    behind = controller_keeps_behind (fixed_of s) (sides_of s) (spots_of s) puts w k.behind;
+  controller = λ w puts finds k. record {
+    behind = controller_keeps_behind (fixed_of s) (sides_of s) (spots_of s) puts w finds k.behind;
     none = k.none;
     hubs = controlled_deaf (fixed_of s) (sides_of s) (spots_of s) k.behind.standing k.behind.lines k.behind.heads puts w k.behind.piped
         k.behind.pays k.behind.behind a k.none k.hubs;
@@ -120,7 +117,8 @@ deaf_at : (text : List ℕ) (s : Script) (a : ℕ) → Spells text s → AllByRe
 deaf_at text s a spelled none k =
     let t = texts_open_spots text s spelled in
     let fits = lines_fit s.lines (texts_fit text s spelled) (texts_open_fitting text s spelled) in
-    (holds_with_puts (CanBeDeaf (sides_of s) (spots_of s) a) (λ w puts. HasDeaf (fixed_of s) (sides_of s) (spots_of s) a puts w) s
+    (holds_while (CanBeDeaf (sides_of s) (spots_of s) a) (λ w. WorldFindsNoneTold (wired (fixed_of s) w) w) (λ w puts. HasDeaf
+    (fixed_of s) (sides_of s) (spots_of s) a puts w) s
     (spelled_fits text s spelled)
     (kinds_both (CanBeBehind (sides_of s) (spots_of s)) (OpensNone a) s.lines
     (kinds_both (CanBePaid (sides_of s)) (OpensSpot (spots_of s)) s.lines
@@ -130,7 +128,7 @@ deaf_at text s a spelled none k =
       behind = new_world_is_behind s (spelled_fits text s spelled) (a_text_spells_bytes text s spelled) t.1;
       none = λ e y here. absurd (none_there s e y here);
       hubs = new_deaf a s.hubs;
-    }) (is_kept s a) k).hubs
+    }) (is_kept s a) k (λ j low. texts_find_none_told text s spelled j)).hubs
 
 unheard_spared : (x : EpDesc) (hubs : List HubContent) → ((a : ℕ) → x.hub ≡ Some a → AllByRecursion (IsUnheard a) hubs)
     → AllByRecursion (λ (h : HubContent). Some h.address ≡ x.hub → heard_clear h ≡ false) hubs

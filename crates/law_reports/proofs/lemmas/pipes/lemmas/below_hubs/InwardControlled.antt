@@ -1,14 +1,12 @@
 -- Each event of the controller leaves a bulk IN endpoint below a hub as it must stand, where its hub is spared.
-use Rattle.std.proofs.Common.{◌≡◌, ℕ, ◌*◌, ◌==◌, Bool, true, false, List, [], ◌++◌, slice_get, Option, Some, None, ap, refl, sym, subst}
+use Rattle.std.proofs.Common.{◌≡◌, ℕ, ◌*◌, ◌==◌, true, false, List, [], slice_get, Some, ap, sym, subst}
 use Rattle.std.proofs.Common.{◌∙◌}
 use Rattle.std.specs.Prelude.{◌&&◌, not}
 use Rattle.std.specs.List.{concat}
-use Rattle.std.proofs.lemmas.Bool.{and_parts, eqb-true, true≢false, false≢true}
+use Rattle.std.proofs.lemmas.Bool.{and_parts, eqb-true, true≢false}
 use Rattle.std.proofs.lemmas.Option.{same_Some}
-use Rattle.law_reports.proofs.Common.{no_iso}
 use Rattle.usb_base.specs.declared.endpoints.EpDesc.{EpDesc}
 use Rattle.usb_base.specs.declared.packets.Dir.TheVariants as Directions
-use Rattle.usb_base.specs.declared.packets.EpKind.{EpKind}
 use Rattle.usb_base.specs.declared.packets.EpKind.TheVariants as kinds
 use Rattle.usb_base.specs.declared.packets.Way.TheVariants as ways
 use Rattle.bus_wire.specs.Bus.{Fixed}
@@ -16,13 +14,11 @@ use Rattle.claims_driver.specs.Scripts.{comes_in}
 use Rattle.claims_report.specs.Streams.{has_stream}
 use Rattle.claims_world.specs.BelowStreams.{is_bulk, is_bulk_in_below}
 use Rattle.drv_table.specs.declared.content.Endpoint.{Endpoint}
-use Rattle.drv_table.specs.Kinds.{is_iso}
 use Rattle.drv_table.specs.Words.{is_high}
 use Rattle.law_driver.specs.queued_drivers.Queued.{queued_endpoint, queued}
 use Rattle.law_driver_ring.specs.fed_queues.Places.{IsMet}
 use Rattle.law_controller.specs.frame_control.Joined.{joined}
 use Rattle.law_descriptors.specs.Both.{parts_now}
-use Rattle.law_descriptors.specs.queue_events.Streams.{bytes_of_both}
 use Rattle.law_below_hubs.specs.HostEvents.{told_key, IsInBehind, SparesKeyNow}
 use Rattle.law_below_hubs.specs.Splits.{IsAtHub}
 use Rattle.law_world.specs.steps.Streaming.{wired}
@@ -36,7 +32,7 @@ use Rattle.law_reports.specs.pipes.Declared.{Sides}
 use Rattle.law_reports.specs.pipes.Piped.{Heads, asked_as, AreFresh, AreLeft, IsPiped}
 use Rattle.law_reports.specs.pipes.puts.Paid.{Pays}
 use Rattle.law_reports.specs.pipes.below_hubs.Behind.{Spots, IsBehind}
-use Rattle.law_reports.specs.pipes.below_hubs.Controlled.{IsWatched, IsUnasked}
+use Rattle.law_reports.specs.pipes.below_hubs.Controlled.{IsWatched}
 use Rattle.law_reports.specs.pipes.below_hubs.Inward.{Inlet, is_inlet, IsInletBy, Unmoved, Begins, IsSpared, IsInward}
 use Rattle.law_reports.proofs.lemmas.pipes.Controlled.{c, z, goes, off, moved_same, unopened_met, unmet_by}
 use Rattle.law_reports.proofs.lemmas.pipes.Names.{name_is}
@@ -76,11 +72,11 @@ module _ (fixed : Fixed) (x : Sides) (o : Spots) (v : Inlet) (s : Standing) (m :
         true≢false (sym on ∙ ap (λ (a : ℕ). is_inlet v a y.desc.name.num) (sym addr) ∙ ap (is_inlet v u.desc.name.addr) (sym num)
         ∙ subst (IsInletBy v u.desc) ctl (i.inlets f u there))
 
-    in_watched : IsMet (queued w.driver) e (queued_endpoint y) → IsWatched w.driver ways.In e y
+    in_watched : IsMet (queued w.driver) e (queued_endpoint y) → IsWatched w.driver kinds.Bulk ways.In e y
     in_watched is_met = record {
       here = here;
       met = is_met;
-      bulk = in_bulk y.desc in_claimed;
+      kind_is = in_bulk y.desc in_claimed;
       way_is = way;
       alone = none_control;
     }
@@ -113,8 +109,9 @@ module _ (fixed : Fixed) (x : Sides) (o : Spots) (v : Inlet) (s : Standing) (m :
       (joined event.event.later event.event.frame_later) (asked_as v.desc).hub (asked_as v.desc).port v.hub v.place z_now i.hub
 
   module _ (spared : IsSpared v (wired fixed w)) where
-    spares : SparesKeyNow (told_key Directions.In (asked_as v.desc)) v.hub v.place (wired fixed w) (wired fixed (controller_next fixed w))
-    spares = spared_hubs_keep_keys v (told_key Directions.In (asked_as v.desc)) (wired fixed w) (wired fixed new) spared
+    spares : SparesKeyNow (told_key kinds.Bulk Directions.In (asked_as v.desc)) v.hub v.place (wired fixed w) (wired fixed
+        (controller_next fixed w))
+    spares = spared_hubs_keep_keys v (told_key kinds.Bulk Directions.In (asked_as v.desc)) (wired fixed w) (wired fixed new) spared
 
     -- ---- one that is met
 
@@ -130,7 +127,8 @@ module _ (fixed : Fixed) (x : Sides) (o : Spots) (v : Inlet) (s : Standing) (m :
         (sym ((goes fixed x s m h w k).adds n))
         (controller_keeps_in_below fixed x s m h w k (ask_ways fixed x o s m h puts w k pays b) event z_now e y
         (in_watched e y here way on is_met) v.packets v.hub v.place (concat (m.acc n))
-        (subst (λ (d : EpDesc). SparesKeyNow (told_key Directions.In (asked_as d)) v.hub v.place (wired fixed w) (wired fixed new))
+        (subst (λ (d : EpDesc). SparesKeyNow (told_key kinds.Bulk Directions.In (asked_as d)) v.hub v.place (wired fixed w)
+        (wired fixed new))
         (sym (is_its e y here way on)) spares)
         (i.met e y here way on is_met))
 

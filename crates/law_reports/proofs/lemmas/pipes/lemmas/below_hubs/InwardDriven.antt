@@ -1,33 +1,25 @@
 -- Each event of the driver leaves a bulk IN endpoint below a hub as it must stand.
-use Rattle.std.proofs.Common.{◌≡◌, ◌≢◌, ℕ, ◌*◌, ◌==◌, ◌≤◌, true, false, List, [], slice_get, Option, Some, None, ap, refl, sym}
-use Rattle.std.proofs.Common.{subst, ◌∙◌, ⊎_elim, inl, inr}
-use Rattle.std.specs.Prelude.{◌⊎◌}
+use Rattle.std.proofs.Common.{◌≡◌, ◌≢◌, ℕ, ◌*◌, ◌==◌, true, false, List, [], slice_get, Some, ap, refl, sym}
+use Rattle.std.proofs.Common.{subst, ◌∙◌, ⊎_elim}
 use Rattle.std.specs.List.{concat}
 use Rattle.std.proofs.lemmas.Bool.{cases_eq, cases_Bool, eq-eqb}
-use Rattle.std.proofs.lemmas.List.{append-nil}
-use Rattle.law_reports.proofs.Common.{queue_open}
-use Rattle.law_world.proofs.Common.{begins_both, begins_all, none_some, no_control, same_queue}
+use Rattle.law_world.proofs.Common.{begins_both, none_some, no_control}
 use Rattle.law_common.proofs.Booleans.{not_high}
 use Rattle.law_common.proofs.Numbers.{same_blocks}
-use Rattle.std.proofs.lemmas.Bool.{and_parts, true≢false}
+use Rattle.std.proofs.lemmas.Bool.{and_parts}
 use Rattle.std.specs.Prelude.{◌&&◌, not}
+use Rattle.usb_base.specs.declared.packets.EpKind.TheVariants as kinds
 use Rattle.usb_base.specs.declared.endpoints.EpDesc.{EpDesc}
 use Rattle.usb_base.specs.declared.packets.Dir.TheVariants as Directions
-use Rattle.usb_base.specs.declared.packets.Speed.{Speed}
-use Rattle.usb_base.specs.declared.packets.Speed.TheVariants as speeds
 use Rattle.usb_base.specs.declared.packets.Way.TheVariants as ways
-use Rattle.hub_keys.specs.declared.key.Key.{Key}
-use Rattle.bus_wire.specs.Bus.{Fixed, Wired}
+use Rattle.bus_wire.specs.Bus.{Fixed}
 use Rattle.claims_base.specs.Prefix.{IsPrefix}
 use Rattle.claims_driver.specs.Scripts.{comes_in}
 use Rattle.claims_report.specs.Streams.{has_stream}
 use Rattle.claims_world.specs.BelowStreams.{is_bulk, is_bulk_in_below}
 use Rattle.drv_table.specs.declared.content.Command.TheVariants as unfinished
 use Rattle.drv_table.specs.declared.content.Endpoint.{Endpoint}
-use Rattle.drv_table.specs.DriverContent.{DriverContent}
-use Rattle.drv_table.specs.Kinds.{is_iso}
-use Rattle.drv_table.specs.Rows.{driver_row}
-use Rattle.drv_table.specs.Words.{is_high, speed_field}
+use Rattle.drv_table.specs.Words.{is_high}
 use Rattle.law_driver.specs.endpoint_lives.Lives.{may_meet}
 use Rattle.law_driver.specs.queued_drivers.Queued.{queued_endpoint, queued}
 use Rattle.law_driver.specs.queued_drivers.Rows.{QueuesAlike}
@@ -46,11 +38,11 @@ use Rattle.law_world.specs.memory.Steps.{HasOpened, QueueStep, stays, harvests, 
 use Rattle.law_world.specs.memory.Steps.{unlinks, narrows}
 use Rattle.law_world.specs.memory.Steps.{goes}
 use Rattle.law_world.specs.memory.pipe_steps.Laws.{IsNoOpening}
-use Rattle.bus_world.specs.World.{World, driver_parts, driver_next}
+use Rattle.bus_world.specs.World.{World, driver_next}
 use Rattle.law_reports.specs.lines.Lined.{in_hand, Lines}
 use Rattle.law_reports.specs.lines.TellingLaws.{IsTellingNext}
 use Rattle.law_reports.specs.pipes.Declared.{Sides}
-use Rattle.law_reports.specs.pipes.Piped.{Heads, asked_as, IsOpening, AreFresh, AreLeft, IsPiped}
+use Rattle.law_reports.specs.pipes.Piped.{Heads, asked_as, IsOpening, AreFresh, IsPiped}
 use Rattle.law_reports.specs.pipes.puts.Paid.{Pays}
 use Rattle.law_reports.specs.pipes.below_hubs.Behind.{Spots, IsBehind}
 use Rattle.law_reports.specs.pipes.below_hubs.Inward.{Inlet, is_inlet, IsInletBy, AreInlets, Unmoved, Begins, IsInward}
@@ -58,14 +50,14 @@ use Rattle.law_reports.proofs.lemmas.pipes.Across.{WasIn}
 use Rattle.law_reports.proofs.lemmas.pipes.Carried.{was_met, fresh_carried}
 use Rattle.law_reports.proofs.lemmas.pipes.Driven.{was_end, now_end, opening_then}
 use Rattle.law_reports.proofs.lemmas.pipes.DrivenSteps.{none_more, none_nearer}
-use Rattle.law_reports.proofs.lemmas.pipes.Followed.{there_by, unmet_then, gone_then, unmet_opened, gone_returned}
-use Rattle.law_reports.proofs.lemmas.pipes.Leaving.{IsNoReturn, step_opens}
-use Rattle.law_reports.proofs.lemmas.pipes.Names.{queue_same, met_near}
+use Rattle.law_reports.proofs.lemmas.pipes.Followed.{unmet_then, gone_then, unmet_opened, gone_returned}
+use Rattle.law_reports.proofs.lemmas.pipes.Leaving.{IsNoReturn}
+use Rattle.law_reports.proofs.lemmas.pipes.Names.{met_near}
 use Rattle.law_reports.proofs.lemmas.pipes.Opened as O
 use Rattle.law_reports.proofs.lemmas.pipes.lemmas.below_hubs.BehindDriven.{slow_field}
-use Rattle.law_reports.proofs.lemmas.pipes.lemmas.below_hubs.InwardControlled.{in_bulk, in_stream, is_its, in_claimed, in_named}
+use Rattle.law_reports.proofs.lemmas.pipes.lemmas.below_hubs.InwardControlled.{in_stream, is_its, in_claimed}
 use Rattle.law_reports.proofs.lemmas.pipes.lemmas.below_hubs.InsSteps.{IsThereIn, by_way, none_active}
-use Rattle.law_reports.proofs.lemmas.pipes.lemmas.below_hubs.NewOuts.{new_first}
+use Rattle.law_reports.proofs.lemmas.pipes.StartingHeads.{new_first}
 use Rattle.law_reports.proofs.lemmas.pipes.lemmas.below_hubs.Starting.{publishes_start}
 use Rattle.law_reports.proofs.lemmas.pipes.lemmas.below_hubs.Steps.{step_keeps_in_behind}
 
@@ -96,7 +88,7 @@ module _ (fixed : Fixed) (x : Sides) (o : Spots) (v : Inlet) (s : Standing) (m :
   in_begun e y here way on there =
       ⊎_elim (λ (near : may_meet (queued w.driver) e (queued_endpoint y) ≡ true).
       let u = i.met e y here way on (record { there = there; near = near }) in
-      in_begins v.packets (told_key Directions.In (asked_as y.desc)) v.hub v.place (wired fixed w)
+      in_begins v.packets (told_key kinds.Bulk Directions.In (asked_as y.desc)) v.hub v.place (wired fixed w)
       (hand_host (in_hand s) (32 * y.queue) u.queue).toggle (hand_host (in_hand s) (32 * y.queue) u.queue).waiting
       (not (hand_host (in_hand s) (32 * y.queue) u.queue).halted) (concat (m.acc (32 * y.queue))) u.side)
       (λ (off : may_meet (queued w.driver) e (queued_endpoint y) ≡ false). i.left.unmet e y here way on there off)
@@ -239,10 +231,6 @@ module _ (fixed : Fixed) (x : Sides) (o : Spots) (v : Inlet) (s : Standing) (m :
       its_claimed : is_bulk_in_below y_own.desc ≡ true
       its_claimed = in_claimed fixed x o v s m h puts w k pays b i at.number y_own its_here own_way own_on
 
-      in_ring : w.driver.command ≡ Some unfinished.Chain → ⊥
-      in_ring =
-          b.ring at.number y_own its_here (in_bulk y_own.desc its_claimed) (O.opening fixed x s m h w k at t alike opened mixed next)
-
       ins : IsIn (t.parts (32 * at.endpoint.queue))
       ins a u there_it active = none_active s w at a u ((opened.told.parts n_own).elements_were a u there_it) active
 
@@ -259,12 +247,14 @@ module _ (fixed : Fixed) (x : Sides) (o : Spots) (v : Inlet) (s : Standing) (m :
           (O.head_then fixed x s m h w k at t alike opened mixed next).named.is (in_slow y_own.desc its_claimed)
           (no_control y_own.desc.kind (in_stream y_own.desc its_claimed)) ins
           (λ a u there_it active. none_active s w at a u ((opened.told.parts n_own).elements_were a u there_it) active)
-          (new_first s w k.mixed at in_ring t opened
+          (new_first t n_own (asked_as y_own.desc) (O.head_then fixed x s m h w k at t alike opened mixed next)
+          (no_control y_own.desc.kind (in_stream y_own.desc its_claimed))
           (O.head_then fixed x s m h w k at t alike opened mixed next).named.queue
           (O.head_then fixed x s m h w k at t alike opened mixed next).named.head)
           (subst (λ (c : EpDesc). IsAtHub (wired fixed w).bus.hubs (asked_as c).hub (asked_as c).port v.hub v.place) (sym own_desc) i.hub)
           (λ going.
-          subst (λ (c : EpDesc). InSide v.packets (told_key Directions.In (asked_as c)) v.hub v.place (wired fixed w) false false going [])
+          subst (λ (c : EpDesc). InSide v.packets (told_key kinds.Bulk Directions.In (asked_as c)) v.hub v.place
+          (wired fixed w) false false going [])
           (sym own_desc) (unmoved going))
 
       none_moved : concat (next.lines.acc (32 * z.queue)) ≡ []

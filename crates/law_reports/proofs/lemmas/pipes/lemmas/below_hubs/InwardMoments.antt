@@ -1,41 +1,21 @@
 -- A bulk IN endpoint below a hub stands as it must at each event, and at each moment of each script before which its hub was spared.
-use Rattle.std.proofs.Common.{◌≡◌, ℕ, List, [], ◌∷◌, slice_get, Some}
-use Rattle.std.specs.List.{AllByRecursion}
-use Rattle.law_world.proofs.Common.{lines_can}
-use Rattle.usb_base.specs.declared.commands.Cmd.{Cmd}
-use Rattle.usb_base.specs.declared.packets.Way.TheVariants as ways
-use Rattle.script_types.specs.declared.scripts.Line.{Line}
-use Rattle.script_types.specs.declared.scripts.Line.TheVariants as lines
-use Rattle.script_types.specs.declared.scripts.Script.{Script}
-use Rattle.script_fits.proofs.Texts.{spelled_fits}
-use Rattle.bus_wire.specs.Bus.{Fixed, fixed_of}
-use Rattle.drv_table.specs.declared.content.Endpoint.{Endpoint}
-use Rattle.law_scripts.proofs.lemmas.script_bytes.Texts.{a_text_spells_bytes}
-use Rattle.law_world.specs.steps.receiving_runs.Runs.{KindOfLine}
+use Rattle.std.proofs.Common.{ℕ, List}
+use Rattle.bus_wire.specs.Bus.{Fixed}
 use Rattle.law_world.specs.memory.Steps.{IsMixedNext}
-use Rattle.law_world.specs.streams.put_laws.TakenPuts.{no_puts}
 use Rattle.law_world.proofs.lemmas.memory.Driving.{driver_tells_step}
-use Rattle.law_world.proofs.lemmas.memory.FittingTexts.{texts_open_fitting}
-use Rattle.law_world.proofs.lemmas.memory.Texts.{texts_fit}
-use Rattle.law_world.proofs.lemmas.memory.Together.{lines_fit}
 use Rattle.law_reports.specs.lines.Lined.{Lines}
 use Rattle.law_reports.specs.lines.TellingLaws.{IsTellingNext}
 use Rattle.law_reports.proofs.lemmas.lines.Driven.{driver_keeps_telling}
-use Rattle.law_reports.specs.pipes.Declared.{Sides, sides_of}
+use Rattle.law_reports.specs.pipes.Declared.{Sides}
 use Rattle.law_reports.specs.pipes.Piped.{Heads, IsPiped}
-use Rattle.law_reports.specs.pipes.puts.Paid.{Pays, HasPaid}
-use Rattle.law_reports.specs.pipes.below_hubs.Behind.{Spots, IsBehind, HasBehind}
-use Rattle.law_reports.specs.pipes.below_hubs.BehindLaws.{OpensSpot, spots_of}
-use Rattle.law_reports.specs.pipes.below_hubs.Inward.{Inlet, is_inlet, Begins, IsSpared, IsInward, HasInward}
-use Rattle.law_reports.specs.pipes.below_hubs.InwardLaws.{OpensInlet, ControllerKeepsInward, DriverKeepsInward, CommandKeepsInward}
-use Rattle.law_reports.specs.pipes.below_hubs.InwardLaws.{inlet_of, IsInletOf, HasItsInlet, TextsAreInward}
+use Rattle.law_reports.specs.pipes.puts.Paid.{Pays}
+use Rattle.law_reports.specs.pipes.below_hubs.Behind.{Spots, IsBehind}
+use Rattle.law_reports.specs.pipes.below_hubs.Inward.{Inlet, IsInward, HasInward}
+use Rattle.law_reports.specs.pipes.below_hubs.InwardLaws.{ControllerKeepsInward, DriverKeepsInward, CommandKeepsInward}
 use Rattle.law_reports.proofs.lemmas.pipes.Commanded.{commanded_piped}
 use Rattle.law_reports.proofs.lemmas.pipes.Controlled.{controlled}
-use Rattle.law_reports.proofs.lemmas.pipes.DeclaredOpens.{texts_declare}
 use Rattle.law_reports.proofs.lemmas.pipes.Driven.{heads_left, driven}
-use Rattle.law_reports.proofs.lemmas.pipes.Moments.{lines_both}
 use Rattle.law_reports.proofs.lemmas.pipes.Opened.{heads_opened, opened_piped}
-use Rattle.law_reports.proofs.lemmas.pipes.Opening.{none_left}
 use Rattle.law_reports.proofs.lemmas.pipes.lemmas.below_hubs.BehindCommanded.{commanded_behind}
 use Rattle.law_reports.proofs.lemmas.pipes.lemmas.below_hubs.BehindControlled.{controlled_behind}
 use Rattle.law_reports.proofs.lemmas.pipes.lemmas.below_hubs.BehindDriven.{driver_leaves_behind}
@@ -45,8 +25,6 @@ use Rattle.law_reports.proofs.lemmas.pipes.lemmas.below_hubs.InwardDriven.{drive
 use Rattle.law_reports.proofs.lemmas.pipes.lemmas.puts.Commanded.{commanded_pays}
 use Rattle.law_reports.proofs.lemmas.pipes.lemmas.puts.DrivenPays.{driven_pays}
 use Rattle.law_reports.proofs.lemmas.pipes.lemmas.puts.Event.{controlled_pays}
-use Rattle.law_reports.proofs.lemmas.pipes.lemmas.puts.PaidMoments.{CanBePaid, lines_paid, new_world_is_paid}
-use Rattle.bus_world.specs.Opening.{opening_world}
 use Rattle.bus_world.specs.World.{World, driver_next}
 use Rattle.law_world.specs.memory.Mixed.{Standing, IsMixedAt}
 use Rattle.law_world.specs.memory.Steps.{QueueStep, stays, harvests, returns, lends, stores, mends, begins, opens, unlinks, narrows, goes}
@@ -55,13 +33,13 @@ use Rattle.law_world.specs.memory.pipe_steps.Laws.{IsNoOpening}
 -- ---- each event and each command
 
 pub controller_keeps_inward : ControllerKeepsInward
-controller_keeps_inward fixed x o v puts w spared k = record {
+controller_keeps_inward fixed x o v puts w spared finds k = record {
   standing = _;
   lines = _;
   heads = k.heads;
   piped = controlled fixed x k.standing k.lines k.heads w k.piped;
   pays = controlled_pays fixed x k.standing k.lines k.heads puts w k.piped k.pays;
-  behind = controlled_behind fixed x o k.standing k.lines k.heads puts w k.piped k.pays k.behind;
+  behind = controlled_behind fixed x o k.standing k.lines k.heads puts w k.piped k.pays k.behind finds;
   inward = controlled_inward fixed x o v k.standing k.lines k.heads puts w k.piped k.pays k.behind k.inward spared;
 }
 

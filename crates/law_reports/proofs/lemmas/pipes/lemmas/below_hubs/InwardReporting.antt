@@ -217,12 +217,12 @@ module _ (text : List ℕ) (s : Script) (spelled : Spells text s) where
 pub texts_keep_ins_below : TextsKeepInsBelow
 texts_keep_ins_below text s spelled = ins_right text s spelled
 
--- .. as where it is spared all along
-pub spared_more : (s : Script) (k : ℕ) (r : WholeReport) → AreBelowInStreams s (λ x. IsSparedBefore s x k) r
-    → AreBelowInStreams s (λ x. (j : ℕ) → IsSparedAt s x j) r
-spared_more s k r all = by (filter (is_claimed_in s) (opened s r)) all
+-- .. as where more is asked of the endpoint
+pub asking_more : (s : Script) (so asked : EpDesc → Type 0) (r : WholeReport) → ((x : EpDesc) → asked x → so x) → AreBelowInStreams s so r
+    → AreBelowInStreams s asked r
+asking_more s so asked r fits all = by (filter (is_claimed_in s) (opened s r)) all
   where
-    by : (xs : List EpDesc) → AllByRecursion (λ x. IsSparedBefore s x k → IsRightStream s r x.name) xs
-        → AllByRecursion (λ x. ((j : ℕ) → IsSparedAt s x j) → IsRightStream s r x.name) xs
+    by : (xs : List EpDesc) → AllByRecursion (λ x. so x → IsRightStream s r x.name) xs
+        → AllByRecursion (λ x. asked x → IsRightStream s r x.name) xs
     by [] each = tt
-    by (x ∷ xs) each = ((λ spared. each.0 (λ j low. spared j)), by xs each.1)
+    by (x ∷ xs) each = ((λ is. each.0 (fits x is)), by xs each.1)

@@ -5,7 +5,7 @@ use Rattle.std.proofs.Common.{sym, ap, subst, ◌∙◌, inl, inr}
 use Rattle.std.specs.Prelude.{◌==◌, ◌&&◌, not, find, slice_get}
 use Rattle.std.specs.List.{AllByRecursion}
 use Rattle.std.specs.Option.{option_map_or}
-use Rattle.std.proofs.lemmas.Bool.{and_parts, eqb-true, true≢false, false≢true, cases_Bool}
+use Rattle.std.proofs.lemmas.Bool.{and_parts, false≢true}
 use Rattle.law_common.proofs.Lists.{nth_all}
 use Rattle.law_driver.proofs.Common.{in_way}
 use Rattle.usb_base.specs.declared.commands.Cmd.TheVariants as commands
@@ -24,14 +24,13 @@ use Rattle.script_world.specs.Draft.{Draft, device_of, script_of}
 use Rattle.script_text.specs.Faults.{Spells}
 use Rattle.endpoint_script.specs.Device.{opened_part}
 use Rattle.endpoint_script.specs.Items.{packets_of}
-use Rattle.hub_keys.specs.declared.key.Key.{Key}
 use Rattle.bus_wire.specs.Bus.{opening_bus, opening_wired}
 use Rattle.claims_driver.specs.Scripts.{comes_in}
 use Rattle.claims_report.specs.Streams.{items_of}
 use Rattle.claims_world.specs.BelowStreams.{is_bulk, is_bulk_in_below, has_port, has_hub, is_claimed_in}
 use Rattle.drv_table.specs.Words.{is_high}
 use Rattle.law_common.proofs.Booleans.{not_high}
-use Rattle.law_driver.specs.queued_drivers.Queued.{IsOfWay, FitsKind}
+use Rattle.law_driver.specs.queued_drivers.Queued.{IsOfWay}
 use Rattle.law_devices.specs.Senders.{sender_of_part}
 use Rattle.law_devices.specs.declared_controls.Names.{HasItsName, NamesLine}
 use Rattle.law_devices.specs.declared_controls.Zero.{AreZeroesAlone}
@@ -53,7 +52,7 @@ use Rattle.law_below_hubs.proofs.Opening.{opens_without_keys, opens_right}
 use Rattle.law_world.specs.steps.receiving_runs.Runs.{KindOfLine}
 use Rattle.law_reports.specs.pipes.Piped.{asked_as}
 use Rattle.law_reports.specs.pipes.below_hubs.Inward.{Inlet, is_inlet, IsInletBy, Unmoved}
-use Rattle.law_reports.specs.pipes.below_hubs.InwardLaws.{OpensInlet, inlet_of, IsInletOf, OpensInlets, HasItsInlet, TextsOpenInlets}
+use Rattle.law_reports.specs.pipes.below_hubs.InwardLaws.{OpensInlet, inlet_of, IsInletOf, HasItsInlet, TextsOpenInlets}
 use Rattle.law_reports.proofs.lemmas.pipes.lemmas.below_hubs.BelowSenders.{sender_is, no_zero_in}
 use Rattle.law_reports.proofs.lemmas.pipes.lemmas.below_hubs.BelowTexts.{HasItsHub, its_hub}
 use Rattle.law_reports.proofs.lemmas.pipes.lemmas.below_hubs.InwardControlled.{in_bulk, its_number}
@@ -195,9 +194,9 @@ module _ (text : List ℕ) (s : Script) (x : EpDesc) (spelled : Spells text s) (
 
   unmoved : Unmoved (inlet_of s x) (opening_wired s)
   unmoved going =
-      in_opens v.packets (told_key Directions.In (asked_as x)) v.hub v.place (opening_wired s) going
-      (opens_without_keys s Buffered (told_key Directions.In (asked_as x)) v.hub v.place its.text its.there its.less)
-      (opens_right (IsOfKind (told_key Directions.In (asked_as x))) s) unsent.sender
+      in_opens v.packets (told_key kinds.Bulk Directions.In (asked_as x)) v.hub v.place (opening_wired s) going
+      (opens_without_keys s Buffered (told_key kinds.Bulk Directions.In (asked_as x)) v.hub v.place its.text its.there its.less)
+      (opens_right (IsOfKind (told_key kinds.Bulk Directions.In (asked_as x))) s) unsent.sender
 
   pub inlets_there : HasItsInlet s (inlet_of s x)
   inlets_there = record {

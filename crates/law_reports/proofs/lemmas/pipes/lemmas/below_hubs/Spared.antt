@@ -3,6 +3,8 @@ use Rattle.std.proofs.Common.{◌≡◌, ℕ, ◌==◌, Bool, true, false, not, 
 use Rattle.std.specs.Prelude.{◌⊎◌}
 use Rattle.std.proofs.lemmas.Option.{same_Some}
 use Rattle.usb_base.specs.declared.packets.Dir.TheVariants as Directions
+use Rattle.usb_base.specs.declared.packets.EpKind.{EpKind}
+use Rattle.usb_base.specs.declared.packets.EpKind.TheVariants as kinds
 use Rattle.hub_keys.specs.declared.key.Key.{Key}
 use Rattle.bus_wire.specs.Bus.{Wired}
 use Rattle.qh_qtd.specs.declared.token.Token.{Token}
@@ -113,10 +115,10 @@ module _ (parts now : StructureSets) (hand later : Hand) (n pid : ℕ) (k : Spar
       by (Settled c z) = ap (λ (host : HostSide). if c.at == n then z.host else host) own
       by (Stale m old) = own
 
-  pub out_spared : (wire : Wired) (i place : ℕ) (known : List ℕ) (x : Endpoint) → pid ≡ 0
-      → (b : IsOutBehind wire i place known parts hand n x)
-      → (c : IsOutBehind wire i place known now later n x) × (c.host.next ≡ b.host.next)
-  out_spared wire i place known x zero b =
+  pub out_spared : (kind : EpKind) (wire : Wired) (i place : ℕ) (known : List ℕ) (x : Endpoint) → pid ≡ 0
+      → (b : IsOutBehind kind wire i place known parts hand n x)
+      → (c : IsOutBehind kind wire i place known now later n x) × (c.host.next ≡ b.host.next)
+  out_spared kind wire i place known x zero b =
       let h : HostSide = hand_host hand n b.queue in
       let s : Taker = shadow (hand_host hand n b.queue).toggle known b.host.next in
       let outs : IsOut (now n) = λ a t here on. ways_stay (λ a t here on. b.outs a t here on ∙ sym zero) a t here on ∙ zero in
@@ -146,9 +148,9 @@ module _ (parts now : StructureSets) (hand later : Hand) (n pid : ℕ) (k : Spar
       subst (λ (q : Qh). OutAgrees (now n) later n q h.toggle known s) one
       (subst (λ (toggle_now : Bool). OutAgrees (now n) later n z.expects.queue toggle_now known s) toggle
       (subst (OutAgrees (now n) later n z.expects.queue z.toggle known) (sym (same_Some s z.taker z.is)) z.agrees)) in
-      let side : OutSide (out_key o.queue) i place wire h.toggle h.waiting known b.host.next =
+      let side : OutSide (out_key kind o.queue) i place wire h.toggle h.waiting known b.host.next =
       subst (λ (key : Key). OutSide key i place wire h.toggle h.waiting known b.host.next)
-      (ap (told_key Directions.Out) (sym o.overlay.endpoint)) b.host.side in (
+      (ap (told_key kind Directions.Out) (sym o.overlay.endpoint)) b.host.side in (
         record {
           queue = o.queue;
           head = o.here;
@@ -161,7 +163,8 @@ module _ (parts now : StructureSets) (hand later : Hand) (n pid : ℕ) (k : Spar
           hub = b.hub;
           host = record {
             next = b.host.next;
-            side = subst (λ (host : HostSide). OutSide (out_key o.queue) i place wire host.toggle host.waiting known b.host.next) (sym same)
+            side = subst (λ (host : HostSide). OutSide (out_key kind o.queue) i place wire host.toggle host.waiting known b.host.next)
+                (sym same)
                 side;
             agrees = subst
                 (λ (host : HostSide). OutAgrees (now n) later n o.queue host.toggle known (shadow host.toggle known b.host.next)) (sym same)
@@ -186,6 +189,7 @@ module _ (parts now : StructureSets) (hand later : Hand) (n pid : ℕ) (k : Spar
         first = starts_stay b.first;
         rests = subst RestsToStart (sym same) b.rests;
         hub = b.hub;
-        side = subst (λ (host : HostSide). InSide packets (told_key Directions.In x) i place wire host.toggle host.waiting (not host.halted)
+        side = subst (λ (host : HostSide). InSide packets (told_key kinds.Bulk Directions.In x) i place wire host.toggle host.waiting
+            (not host.halted)
             known) (sym same) b.side;
       }

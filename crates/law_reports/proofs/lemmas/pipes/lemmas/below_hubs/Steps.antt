@@ -312,9 +312,10 @@ module _ (sends takes : ℕ → ℕ → Bool) (ins outs : ℕ → Bool) (ends : 
   spared _ (goes e x d t back is) on = gone t (32 * x.queue) (is.near n) is.parts is.hand is.frame on
 
 pub step_keeps_out_behind : StepKeepsOutBehind
-step_keeps_out_behind sends takes ins outs ends s t w new wire i place known n x mixed step by_way starts out near near_then b =
+step_keeps_out_behind kind sends takes ins outs ends s t w new wire i place known n x mixed step by_way starts out near near_then b =
     out_spared s.parts t.parts (in_hand s) (in_hand t) n 0
-    (spared sends takes ins outs ends s w new mixed by_way starts n 0 near (inl (refl, out)) t step near_then) wire i place known x refl b
+    (spared sends takes ins outs ends s w new mixed by_way starts n 0 near (inl
+    (refl, out)) t step near_then) kind wire i place known x refl b
 
 pub step_keeps_in_behind : StepKeepsInBehind
 step_keeps_in_behind packets sends takes ins outs ends s t w new wire i place known n x mixed step by_way starts on near near_then b =

@@ -1,0 +1,9 @@
+pub mod KeptBytes
+pub mod Sets
+pub mod Lent
+pub mod Driven
+pub mod Heard
+pub mod Controlled
+pub mod Commanded
+pub mod Moments
+pub mod Sampled
