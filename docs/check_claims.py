@@ -126,7 +126,7 @@ def clauses():
     text = (CRATES / "ehci_cli/src/program.rt").read_text()
     names, _ = imports(text)
     head = text.split("pub fn ehci<")[1].split("\n{")[0]
-    return [names[it] for clause in re.findall(r"ensures \w+ \{ (.*) \}", head) for it in re.findall(NAME, clause) if it in names]
+    return [names[it] for clause in re.findall(r"ensures \w+ \{ (.*?) \}(?=\n    ensures|$)", head, re.S) for it in re.findall(NAME, clause) if it in names]
 
 
 def faults(specs):

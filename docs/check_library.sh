@@ -61,5 +61,6 @@ compare() {
   cmp "$room/words" "$room/program" || failed "the words after $2 $1 differ from the program's after ${events:-no} events"
 }
 for count in 1 4 17 40 100; do compare microframes $count; done
+for count in 1 4 17 40 100; do compare runs $count; done
 for count in 1 2 3 5 8 13 21 34 55 89 144 233 377 610 987 1597 2584 4181 6400; do compare events $count; done
 exit $status

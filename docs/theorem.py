@@ -63,7 +63,14 @@ SAYS = {
                        "its complete-splits: in a microframe of its S-mask, where its queue head came to work on something and no split "
                        "transaction of it was under way; and a complete-split, in each microframe of its C-mask where it waited and none was "
                        "missed, after which it waits further where the translator answers NYET and a later one comes; unless a cancel of it "
-                       "was accepted since. What the translator answers is in clause `translators`, not here.",
+                       "was accepted since. What the translator answers is in clause `translators`, and that it is taken in `results`.",
+    "results": "Once the walk of the frames is over in such a microframe: of an interrupt endpoint below a hub of which a complete-split was due as the "
+               "microframe began, where neither this complete-split nor its answer is lost, and no cancel of it was accepted since: the host heard "
+               "in it just what the translator of its hub and port had for the endpoint as the microframe began. Where that is data with the queue "
+               "head's toggle for which it has room, or the acknowledgement of the bytes that its start-split sent, these bytes moved, and the queue "
+               "head was written back so: so many fewer are left, the toggle is the other one, and a start-split comes next. In the last microframe "
+               "of its C-mask, where its translator's pipeline has its entry with the whole start-split worked, what was heard is what the device "
+               "said, never NYET.",
     "sitds": "Once the walk of the frames is over in a microframe that isn't held, where no more than 4 microseconds went for complete-splits made "
              "again: the siTDs to which it came with a transaction to be made in this microframe are those that were written back after it, one for "
              "one: of an OUT a part, with which there is one fewer to send; of an IN its start-split, or a complete-split; parts and complete-splits "
@@ -76,9 +83,10 @@ SAYS = {
             "active qTD; and so has its copy in the hand of either walk before its transaction. So no such queue head is passed for want of work.",
     "streams": "Whatever a script opens and cancels: at each moment, and after the run, the bytes told of each bulk and interrupt IN endpoint at high speed that was opened begin its stream, each once and in order; those told of each such OUT "
                     "endpoint begin what its device took, and these begin what was put to it. No line follows its end, and nothing is pending then. In mid-run they are compared with all puts "
-                    "that weren't refused so far; after the run with all of the script that weren't. The same holds of each bulk OUT endpoint at low or full speed that is behind a port of a hub of the script, whatever "
+                    "that weren't refused so far; after the run with all of the script that weren't. The same holds of each bulk and interrupt OUT endpoint at low or full speed that is behind a port of a hub of the script, whatever "
                     "is asked of the hub; but its device may take more behind the line that tells its end. Of each bulk IN endpoint there the bytes told begin its stream, no line follows its end, and nothing is pending then, at each "
-                    "moment before which its hub never heard as its last request that it clears a buffer (CLEAR_TT_BUFFER) or resets a translator (RESET_TT), and after each run in which it never did.",
+                    "moment before which its hub never heard as its last request that it clears a buffer (CLEAR_TT_BUFFER) or resets a translator (RESET_TT), and after each run in which it never did; and throughout each script none of whose "
+                    "`control` lines to that hub is such a request.",
     "ends": "Whatever a script opens: at each moment, and after the run, no line follows the one that tells the end of a bulk, interrupt or isochronous endpoint, and nothing of it is pending then.",
     "misses": "At each moment each line that tells a missed microframe is of an endpoint at low or full speed, whatever a script loses, holds and asks.",
     "errors": "Where no line of a script loses or damages a packet between the controller and a hub or a device at high speed, and no interrupt endpoint at high speed ever answers with NYET: at each moment each line "
@@ -97,12 +105,13 @@ SAYS = {
     "words": "The status is `Words` exactly where the words have none of the forms.",
     "untouched": "Then nothing is read and nothing is written.",
     "unread": "The form `load` reads nothing.",
-    "load": "The line of `load` counts the report of the whole run of the script that is drawn from its number.",
+    "load": "`load` ends with `Ok` and the line that counts the report of the whole run of the script that is drawn from its number, with `WriteFault` and a front part of that line, or with `Memory` and nothing; it never refuses.",
+    "places": "At no moment of the run of the script that is drawn for `load` is an open refused for want of a placement: its periodic endpoints keep every budget wherever they are placed.",
     "left": "What a form leaves unread in its source: nothing, or what stands behind the 1,048,601st byte.",
     "nothing": "Where the input couldn't be read or memory was wanting, nothing is written.",
     "read": "The status is `ReadFault` exactly where a read failed.",
     "write": "The status is `WriteFault` exactly where a write failed.",
-    "finishes": "Where the words have a form, the input is one that it reads, and neither count of faults rose: the status is `Ok` and the whole output is written, or it is `Memory` and nothing is. So it is of `load`, if its own script is sound.",
+    "finishes": "Where the words have a form, the input is one that it reads, and neither count of faults rose: the status is `Ok` and the whole output is written, or it is `Memory` and nothing is. `load` reads nothing, and the script that it draws is always sound.",
 }
 INTRODUCTION = """# The theorem
 
