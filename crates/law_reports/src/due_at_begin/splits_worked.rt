@@ -5,7 +5,7 @@ ghost use Rattle.toggle_error.specs.declared.host.Outcome.TheVariants.{Wait};
 ghost use Rattle.qh_qtd.specs.declared.queue_head.Qh.{Qh};
 ghost use Rattle.hc_core.specs.declared.controller.ControllerRow.TheVariants.{Begin};
 ghost use Rattle.bus_wire.specs.Bus.{fixed_of};
-ghost use Rattle.bus_world.specs.World.{controller_row, controller_next};
+ghost use Rattle.bus_world.specs.World.{controller_row};
 ghost use Rattle.claims_world.specs.DueAtBegin.{IsUncancelled};
 ghost use Rattle.claims_world.specs.QueuesMade.{QueueMade, HasMade};
 ghost use Rattle.claims_world.specs.SplitsAtBegin.{IsStartDue, IsStarted, IsCompleteDue};
@@ -14,7 +14,7 @@ ghost use Rattle.law_world.specs.memory.Samples.{keyboard_and_disk, keyboard_pla
 ghost use Rattle.law_microframes.specs.due.repeats.Samples.{waiting, pressed, answer_lost};
 ghost use Rattle.law_microframes.specs.translators.Results.{IsAnswerDue, IsResultDue, IsTaken};
 ghost use Rattle.law_reports.specs.due_at_begin.SplitSamples.{starting, started_in, made_in, its_queue, its_head, too_late};
-ghost use Rattle.law_reports.specs.due_at_begin.SplitsFollow.{IsWaitingIn, IsLeftWaiting, WaitsAs, IsOutOfHand, IsItsTurn};
+ghost use Rattle.law_reports.specs.due_at_begin.SplitsFollow.{IsWaitingIn, IsLeftWaiting, IsOutOfHand, IsItsTurn};
 
 /// The Begin of microframe 0 leaves a world in which the keyboard's start-split is due; it isn't in microframe 2.
 pub fn a_start_split_is_due()
@@ -64,15 +64,13 @@ pub fn a_result_is_taken()
     ensures taken { HasMade (IsTaken (its_head (started_in pressed 1)) its_queue 8) (made_in pressed 4) }
 {}
 
-/// Once its start-split is written back, and not before, the keyboard's queue head waits in memory and is in no hand; the next event leaves
-/// it so. Its first complete-split comes in microframe 2; in microframe 3 it is too late for it.
+/// Once its start-split is written back, and not before, the keyboard's queue head waits in memory and is in no hand. Its first
+/// complete-split comes in microframe 2; in microframe 3 it is too late for it.
 pub fn a_started_head_waits()
     ensures waits { IsWaitingIn (started_in starting 5) 0 130 (its_head (started_in starting 5)) }
     ensures left { IsLeftWaiting (started_in starting 5) 0 130 }
     ensures out { IsOutOfHand (started_in starting 5) its_queue }
     ensures not_yet { (q : Qh) → IsWaitingIn (started_in starting 4) 0 130 q → ⊥ }
-    ensures on { WaitsAs (controller_next (fixed_of keyboard_and_disk) (started_in starting 5)) 0 130 keyboard_place
-        (its_head (started_in starting 5)) }
     ensures turn { IsItsTurn (fixed_of keyboard_and_disk) (started_in waiting 1) keyboard_place (its_head (started_in waiting 1)) }
     ensures late { IsItsTurn (fixed_of keyboard_and_disk) (started_in too_late 1) keyboard_place (its_head (started_in too_late 1)) → ⊥ }
 {}

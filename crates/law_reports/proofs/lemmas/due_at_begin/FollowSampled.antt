@@ -25,11 +25,10 @@ use Rattle.bus_world.specs.Orders.{ticks}
 use Rattle.claims_world.specs.Carried.{carried_from}
 use Rattle.hc_masks.specs.Masks.{lacks}
 use Rattle.hc_interrupt.specs.Turns.{tag_of, waits, is_missed}
-use Rattle.bus_world.specs.World.{controller_next}
 use Rattle.law_world.specs.memory.Samples.{keyboard_and_disk, keyboard_place}
 use Rattle.law_microframes.specs.due.repeats.Samples.{waiting}
 use Rattle.law_reports.specs.due_at_begin.SplitSamples.{starting, started_in, its_queue, its_head, too_late}
-use Rattle.law_reports.specs.due_at_begin.SplitsFollow.{IsWaitingIn, WaitsAs, IsOutOfHand, IsItsTurn, IsLeftWaiting}
+use Rattle.law_reports.specs.due_at_begin.SplitsFollow.{IsWaitingIn, IsOutOfHand, IsItsTurn, IsLeftWaiting}
 
 pub keyboard_waits : IsWaitingIn (started_in starting 5) 0 130 (its_head (started_in starting 5))
 unfolding ticks carried_from lowest_run filled with_words_in store_words lend_runs qh_words qtd_words token_word token_at link_word
@@ -96,23 +95,6 @@ doesnt_wait q read = ap waits (sym (same_Some _ q read))
 
 pub not_written_yet : (q : Qh) → IsWaitingIn (started_in starting 4) 0 130 q → ⊥
 not_written_yet q x = false≢true (sym (doesnt_wait q x.read) ∙ x.waiting)
-
-pub waits_on : WaitsAs (controller_next (fixed_of keyboard_and_disk) (started_in starting 5)) 0 130 keyboard_place
-    (its_head (started_in starting 5))
-unfolding ticks carried_from lowest_run filled with_words_in store_words lend_runs qh_words qtd_words token_word token_at link_word
-    qtd_link_word
-    predecessors frames word_after before_the behind_the link_read qtd_link_read qh_read qh_bad qh_at qtd_read qtd_bad qtd_at
-    first_bad_bit words_in advanced lacks with_split settled_queue moved missed_queue written_back raised overlay_after
-    stored put_bytes put_byte places words_from all_reached reached
-waits_on = record {
-  there = record { endpoint = _; here = refl; chained = refl; kind = refl; queue = refl; placed = refl; idle = λ v is. absurd cc };
-  queue = _;
-  read = refl;
-  waiting = refl;
-  token = refl;
-  progress = refl;
-  frame = refl;
-}
 
 pub its_turn_comes : IsItsTurn (fixed_of keyboard_and_disk) (started_in waiting 1) keyboard_place (its_head (started_in waiting 1))
 unfolding ticks carried_from lowest_run filled with_words_in store_words lend_runs qh_words qtd_words token_word token_at link_word

@@ -1,4 +1,4 @@
-use Rattle.law_reports.proofs.lemmas.due_at_begin.FollowSampled.{keyboard_waits, out_of_hand, not_written_yet, waits_on, its_turn_comes}
+use Rattle.law_reports.proofs.lemmas.due_at_begin.FollowSampled.{keyboard_waits, out_of_hand, not_written_yet, its_turn_comes}
 use Rattle.law_reports.proofs.lemmas.due_at_begin.FollowSampled.{left_waiting, too_late_for_it}
 use Rattle.law_reports.proofs.due_at_begin.splits_worked.a_started_head_waits.Goals as goal
 
@@ -10,9 +10,6 @@ returns-clause-out c = out_of_hand
 
 pub returns-clause-not_yet : goal.returns-clause-not_yet
 returns-clause-not_yet c = not_written_yet
-
-pub returns-clause-on : goal.returns-clause-on
-returns-clause-on c = waits_on
 
 pub returns-clause-turn : goal.returns-clause-turn
 returns-clause-turn c = its_turn_comes
