@@ -14,6 +14,6 @@ pub mod worked;
 pub mod worked_parts;
 
 pub use events::step;
-pub use parts::{HeldParts, RingParts};
+pub use parts::{HeldParts, RingParts, copy_heard};
 pub use rows::WalkRow;
 pub use state::{AsyncState, Cursor, ReloadMode, WalkStep};

@@ -1,4 +1,4 @@
-ghost use Rattle.std.specs.Prelude.{◌≡◌, Option, Some, IfSome, option_map};
+ghost use Rattle.std.specs.Prelude.{◌≡◌, Option, Some, None, true, false, IfSome, option_map};
 ghost use Rattle.hc_copy.specs.declared.held.Held.{Held as Copied};
 ghost use Rattle.hc_copy.specs.Visits.{IsHeld};
 ghost use Rattle.async_walk.specs.Walk.{Walk, IsWalk};
@@ -107,6 +107,17 @@ fn is_place(cursor: Cursor) -> bool
     }
 }
 
+/// A copy of what was heard, in the room of a packet that stands there, if one does.
+pub fn copy_heard(room: &mut Reply, reply: &Reply)
+    ensures { room.new ≡ reply.now }
+{
+    match reply {
+        Reply::Silent => *room = Reply::Silent,
+        Reply::Hand(pid) => room.set_hand(*pid),
+        Reply::Bytes(pid, packet) => room.set_bytes(*pid, packet.as_slice()),
+    }
+}
+
 impl AsyncState {
     /// The walk's parts.
     pub fn parts(&self) -> RingParts
@@ -161,5 +172,29 @@ impl AsyncState {
         ensures back { (w : Walk) → IsWalk w.cursor w.held → ring_parts w ≡ parts.now → w.reply ≡ reply → result ≡ Some w }
     {
         Self::read_parts(parts, reply)
+    }
+
+    /// Takes these parts in place, and a copy of this for what was heard; false, and nothing changes, where no walk has them.
+    #[tactic(auto, using(crate::proofs::Whole::cursor_is))]
+    pub fn load(&mut self, parts: &RingParts, reply: &Reply) -> bool
+        ensures loaded { result ≡ true → walk_from parts.now reply.now ≡ Some self.new }
+        ensures refused { result ≡ false → walk_from parts.now reply.now ≡ None }
+        ensures stays { result ≡ false → self.new ≡ self.old }
+    {
+        if !is_place(parts.cursor) {
+            return false;
+        }
+        match hand_of(&parts.held) {
+            None => false,
+            Some(held) => {
+                self.cursor = parts.cursor;
+                self.held = held;
+                self.left = parts.left;
+                self.mode = parts.mode;
+                self.first = parts.first;
+                copy_heard(&mut self.reply, reply);
+                true
+            }
+        }
     }
 }

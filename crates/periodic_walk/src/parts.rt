@@ -1,10 +1,11 @@
-ghost use Rattle.std.specs.Prelude.{◌≡◌, ◌≤◌, Some, IsSome, IfSome, ◌↔◌, length};
+ghost use Rattle.std.specs.Prelude.{◌≡◌, ◌≤◌, Some, None, true, false, IsSome, IfSome, ◌↔◌, length};
 ghost use Rattle.periodic_walk.specs.Walk.{Walk, IsWalk};
 ghost use Rattle.periodic_walk.specs.Parts.{is_place, frame_parts, walk_from};
 
 use crate::hand_parts::{HandParts, hand_of, parts_of};
 use crate::state::PeriodicState;
 use arrayvec::ArrayVec;
+use async_walk::copy_heard;
 use link_words::Link;
 use usb_base::{Ps, Reply};
 
@@ -38,6 +39,15 @@ fn kept(bytes: &[u8]) -> Option<ArrayVec<u8, 3072>>
         Ok(()) => Some(kept),
         Err(_) => None,
     }
+}
+
+/// A copy of received bytes, in place.
+fn set_bytes(room: &mut ArrayVec<u8, 3072>, bytes: &[u8])
+    requires { length bytes.now ≤ 3072 }
+    ensures { room.new.items ≡ bytes.now }
+{
+    room.clear();
+    let _ = room.try_extend_from_slice(bytes);
 }
 
 impl PeriodicState {
@@ -104,5 +114,30 @@ impl PeriodicState {
             → w.got ≡ got.now → result ≡ Some w }
     {
         Self::read_parts(parts, reply, got)
+    }
+
+    /// Takes these parts in place, and copies of this for what was heard and of these bytes; false, and nothing changes, where no walk has
+    /// them.
+    #[tactic(auto, using(crate::proofs::Whole::place_is))]
+    pub fn load(&mut self, parts: &FrameParts, reply: &Reply, got: &[u8]) -> bool
+        ensures loaded { result ≡ true → walk_from parts.now reply.now got.now ≡ Some self.new }
+        ensures refused { result ≡ false → walk_from parts.now reply.now got.now ≡ None }
+        ensures stays { result ≡ false → self.new ≡ self.old }
+    {
+        if got.len() > 3072 || !is_place(parts.cursor) {
+            return false;
+        }
+        match hand_of(got, &parts.hand) {
+            None => false,
+            Some(hand) => {
+                self.cursor = parts.cursor;
+                self.index = parts.index;
+                self.hand = hand;
+                self.left = parts.left;
+                copy_heard(&mut self.reply, reply);
+                set_bytes(&mut self.got, got);
+                true
+            }
+        }
     }
 }
