@@ -159,9 +159,10 @@ pub fn run(whole: &mut Whole, words: &mut [u32], desk: &mut Desk<'_, '_>, most: 
     if words.len() > 1_073_741_816 {
         return RunStop::Unfit;
     }
-    let Some(mut controller) = whole.controller() else {
+    let mut controller = Controller::new();
+    if !whole.load(&mut controller) {
         return RunStop::Unfit;
-    };
+    }
     let mut regs = registers_of(&whole.registers);
     if !regs.running() {
         return RunStop::Idle;

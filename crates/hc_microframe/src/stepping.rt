@@ -85,9 +85,10 @@ pub fn step(whole: &mut Whole, words: &mut [u32], desk: &mut Desk<'_, '_>) -> St
     if words.len() > 1_073_741_816 {
         return Stepped::Unfit;
     }
-    let Some(mut controller) = whole.controller() else {
+    let mut controller = Controller::new();
+    if !whole.load(&mut controller) {
         return Stepped::Unfit;
-    };
+    }
     let mut regs = registers_of(&whole.registers);
     let mut loan = Loan::of(words);
     let kind = step_in(&mut loan, &mut controller, &mut regs, desk);

@@ -1,4 +1,4 @@
-ghost use Rattle.std.specs.Prelude.{◌≡◌, ◌≤◌, ◌==◌, None, Some, length, take};
+ghost use Rattle.std.specs.Prelude.{◌≡◌, ◌≤◌, ◌==◌, true, false, None, Some, length, take};
 ghost use Rattle.op_registers.specs.RegisterFile.{reset_file};
 ghost use Rattle.hc_core.specs.Controller.{new_control};
 ghost use Rattle.async_walk.specs.Walk.{IsCursor, new_walk};
@@ -142,9 +142,11 @@ fn got(words: &FrameWords) -> &[u8]
 }
 
 impl FrameWords {
-    /// The walk that has these numbers; None where none has.
-    pub(crate) fn walk(&self) -> Option<PeriodicState>
-        ensures { result ≡ frame_in self.now }
+    /// The walk of the frame's chain takes these numbers in place; false where no walk has them.
+    fn load(&self, controller: &mut Controller) -> bool
+        ensures loaded { result ≡ true → frame_in self.now ≡ Some controller.new.frame }
+        ensures refused { result ≡ false → frame_in self.now ≡ None }
+        ensures same { controller.new ≡ record controller.old { frame = controller.new.frame } }
     {
         let parts = FrameParts {
             cursor: read(self.cursor),
@@ -152,7 +154,7 @@ impl FrameWords {
             hand: self.hand.parts(),
             left: Ps(self.left),
         };
-        PeriodicState::from_parts(&parts, self.heard.reply(), got(self))
+        controller.load_frame(&parts, &self.heard.reply(), got(self))
     }
 
     #[tactic(auto, using(link_words::proofs::LinkLaws::link_laws))]
@@ -250,9 +252,11 @@ impl RingWords {
         words
     }
 
-    /// The walk that has these numbers; None where none has.
-    pub(crate) fn walk(&self) -> Option<AsyncState>
-        ensures { result ≡ ring_in self.now }
+    /// The walk of the ring takes these numbers in place; false where no walk has them.
+    fn load(&self, controller: &mut Controller) -> bool
+        ensures loaded { result ≡ true → ring_in self.now ≡ Some controller.new.walk }
+        ensures refused { result ≡ false → ring_in self.now ≡ None }
+        ensures same { controller.new ≡ record controller.old { walk = controller.new.walk } }
     {
         let parts = RingParts {
             cursor: cursor_of(self.begun, self.cursor),
@@ -261,7 +265,7 @@ impl RingWords {
             mode: mode_of(self.mode),
             first: self.first == 1,
         };
-        AsyncState::from_parts(&parts, self.heard.reply())
+        controller.load_walk(&parts, &self.heard.reply())
     }
 
     fn set_numbers(&mut self, parts: &RingParts, reply: &Reply)
@@ -305,17 +309,16 @@ impl RingWords {
 }
 
 impl Whole {
-    /// The controller that has these numbers; None where none has.
-    pub(crate) fn controller(&self) -> Option<Controller>
-        ensures { result ≡ control_of self.now }
+    /// The controller takes these numbers in place; false where none has them.
+    pub(crate) fn load(&self, controller: &mut Controller) -> bool
+        ensures loaded { result ≡ true → control_of self.now ≡ Some controller.new }
+        ensures refused { result ≡ false → control_of self.now ≡ None }
     {
-        match self.frame.walk() {
-            None => None,
-            Some(frame) => match self.ring.walk() {
-                None => None,
-                Some(ring) => Some(Controller::from_parts(part_of(self.part), frame, ring)),
-            },
+        controller.set_part(part_of(self.part));
+        if !self.frame.load(controller) {
+            return false;
         }
+        self.ring.load(controller)
     }
 
     /// The controller begins anew; its registers stay.

@@ -1,28 +1,28 @@
-use Rattle.std.proofs.Common.{rules}
+use Rattle.std.proofs.Common.{Some, rules, sym, refl}
 use Rattle.hc_microframe.proofs.EventsInRow.{is_run, is_run_over, is_run_held_up, leaves_none, over_allowed, wants_allowed}
 use Rattle.hc_microframe.proofs.several.run.Goals as goal
 
 pub returns-clause-over : goal.returns-clause-over
 returns-clause-over c n same =
-    is_run_over c.args.whole.now c.args.words.now c.of-loan.result.words.now c.controller.result c.in-Some.controller
+    is_run_over c.args.whole.now c.args.words.now c.of-loan.result.words.now (Some c.load.new.controller) c.load.new.controller
     c.registers_of-regs.result
     c.run_in.result n c.args.desk.now c.args.most c.run_in.new.whole c.run_in.new.loan.words.now _
-    c.run_in.new.desk c.controller.ensures c.in-Some.is c.registers_of-regs.ensures c.of-loan.ensures.words c.run_in.ensures.leaves
+    c.run_in.new.desk (sym (c.load.ensures.loaded (search rules))) refl c.registers_of-regs.ensures c.of-loan.ensures.words c.run_in.ensures.leaves
     (search rules) same
 
 pub returns-clause-wants : goal.returns-clause-wants
 returns-clause-wants c n same =
-    is_run_held_up c.args.whole.now c.args.words.now c.of-loan.result.words.now c.controller.result c.in-Some.controller
+    is_run_held_up c.args.whole.now c.args.words.now c.of-loan.result.words.now (Some c.load.new.controller) c.load.new.controller
     c.registers_of-regs.result
     c.run_in.result n c.args.desk.now c.args.most c.run_in.new.whole c.run_in.new.loan.words.now _
-    c.run_in.new.desk c.controller.ensures c.in-Some.is c.registers_of-regs.ensures c.of-loan.ensures.words c.run_in.ensures.leaves
+    c.run_in.new.desk (sym (c.load.ensures.loaded (search rules))) refl c.registers_of-regs.ensures c.of-loan.ensures.words c.run_in.ensures.leaves
     (search rules) same
 
 pub returns-clause-long : goal.returns-clause-long
 returns-clause-long c same =
-    is_run c.args.whole.now c.args.words.now c.of-loan.result.words.now c.controller.result c.in-Some.controller c.registers_of-regs.result
+    is_run c.args.whole.now c.args.words.now c.of-loan.result.words.now (Some c.load.new.controller) c.load.new.controller c.registers_of-regs.result
     c.run_in.result c.args.desk.now c.args.most c.run_in.new.whole c.run_in.new.loan.words.now _
-    c.run_in.new.desk c.controller.ensures c.in-Some.is c.registers_of-regs.ensures c.of-loan.ensures.words c.run_in.ensures.leaves
+    c.run_in.new.desk (sym (c.load.ensures.loaded (search rules))) refl c.registers_of-regs.ensures c.of-loan.ensures.words c.run_in.ensures.leaves
     (search rules) same
 
 pub returns-clause-over_allowed : goal.returns-clause-over_allowed
