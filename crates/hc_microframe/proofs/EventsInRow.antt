@@ -23,6 +23,7 @@ use Rattle.hc_microframe.specs.Several.{ReachesEnd, ReachesAsk, IsRun, IsRunOver
 use Rattle.hc_microframe.proofs.Going.{nothing_wanted}
 use Rattle.hc_microframe.proofs.Once.{asks_once}
 use Rattle.hc_microframe.proofs.HeldUp.{held_up_keeps}
+use Rattle.hc_microframe.proofs.InHand.{asks_in_hand}
 
 -- ---- one event
 
@@ -53,13 +54,16 @@ makes old before step kind new after asked e is faults wants unasked same =
     record { event = e; answered = nothing_wanted after.wanted (sym wants ∙ unasked); kind_is = sym s ∙ is; faults = faults }
 
 pub asks : (old : Content) (before : Told) (s : Whole) (new : Content) (after : Told) (asked : Bool) → before.wanted ≡ None
-    → IsEvent old before new after → (before.answers ≡ [] → s.registers ≡ shown old.registers 0)
-    → (before.answers ≡ [] → control_of s ≡ Some old.control) → asked ≡ is_some after.wanted → asked ≡ true
+    → IsEvent old before new after
+    → (before.answers ≡ [] → is_some (address_in_hand old.control) ≡ true → s.registers ≡ shown old.registers 0)
+    → (before.answers ≡ [] → is_some (address_in_hand old.control) ≡ true → control_of s ≡ Some old.control)
+    → asked ≡ is_some after.wanted → asked ≡ true
     → AsksNext old before s new after
 asks old before s new after asked none e registers to wants is =
     let some : is_some after.wanted ≡ true = sym wants ∙ is in
     let gone = none_left old new before after none e some in
-    record { event = e; wanted = some; registers = registers gone; to = to gone }
+    let held = asks_in_hand old new before after none some e in
+    record { event = e; wanted = some; registers = registers gone held; to = to gone held }
 
 -- ---- one event more
 

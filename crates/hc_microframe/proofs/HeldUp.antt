@@ -54,7 +54,7 @@ use Rattle.hc_microframe.specs.Answers.{Told, Begins, Answers}
 use Rattle.hc_microframe.specs.Microframe.{IsEvent}
 
 -- nothing was asked
-silent : (P : Type 0) (before after : Told) → before.wanted ≡ None → is_some after.wanted ≡ true → after ≡ before → P
+pub silent : (P : Type 0) (before after : Told) → before.wanted ≡ None → is_some after.wanted ≡ true → after ≡ before → P
 silent P before after none some same =
     let no : is_some after.wanted ≡ false = ap (λ (t : Told). is_some t.wanted) same ∙ ap (λ (w : Option Wanted). is_some w) none in
     absurd (false≢true (sym no ∙ some))

@@ -6,6 +6,7 @@ mod Placing
 pub mod Wholes
 mod Once
 mod HeldUp
+mod InHand
 mod OneEvent
 mod RingShapes
 mod FrameShapes

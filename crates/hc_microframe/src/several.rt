@@ -1,7 +1,7 @@
-ghost use Rattle.std.specs.Prelude.{◌≡◌, ◌≢◌, ◌≤◌, ◌-◌, ℕ, length, false, [], None, Some};
+ghost use Rattle.std.specs.Prelude.{◌≡◌, ◌≢◌, ◌≤◌, ◌-◌, ℕ, length, true, false, [], None, Some, is_some};
 ghost use Rattle.word_mem.specs.Memory.{all_lent};
 ghost use Rattle.lent_words.specs.Lent.{most_lent, lent_mem};
-ghost use Rattle.hc_core.specs.Controller.{Control, content};
+ghost use Rattle.hc_core.specs.Controller.{Control, content, address_in_hand};
 ghost use Rattle.hc_microframe.specs.Numbers.{control_of};
 ghost use Rattle.hc_microframe.specs.State.{shown, file_of};
 ghost use Rattle.hc_microframe.specs.Several.{MakesNext, AsksNext, Leaves, IsRun, IsRunOver, IsRunHeldUp};
@@ -31,12 +31,12 @@ pub enum RunStop {
     Unfit,
 }
 
-/// Where no answer is left, `whole` tells the state.
+/// Where no answer is left and a copy is in hand, so that the next event may ask, `whole` tells the state.
 fn keep(whole: &mut Whole, controller: &Controller, regs: &Registers, desk: &Desk<'_, '_>)
-    ensures control { desk.now.answers ≡ [] → control_of whole.new ≡ Some controller.now }
-    ensures registers { desk.now.answers ≡ [] → whole.new.registers ≡ shown regs.now 0 }
+    ensures control { desk.now.answers ≡ [] → is_some (address_in_hand controller.now) ≡ true → control_of whole.new ≡ Some controller.now }
+    ensures registers { desk.now.answers ≡ [] → is_some (address_in_hand controller.now) ≡ true → whole.new.registers ≡ shown regs.now 0 }
 {
-    if desk.is_empty() {
+    if desk.is_empty() && controller.held().is_some() {
         whole.set(controller, regs);
     }
 }

@@ -110,27 +110,24 @@ impl HandWords {
         }
     }
 
-    fn of(hand: &Option<HandParts>) -> HandWords
-        ensures { hand_in result ≡ hand.now }
+    /// What is in hand, in its place; the numbers of other copies stay.
+    fn set(&mut self, hand: &Option<HandParts>)
+        ensures { hand_in self.new ≡ hand.now }
     {
-        let none = Self::none();
         match hand {
-            None => none,
-            Some(HandParts::Queue(parts)) => HandWords {
-                kind: 1,
-                queue: QueueWords::of(&parts.copy, parts.made),
-                ..none
-            },
-            Some(HandParts::Itd(parts)) => HandWords {
-                kind: 2,
-                itd: ItdWords::of(parts),
-                ..none
-            },
-            Some(HandParts::Sitd(parts)) => HandWords {
-                kind: 3,
-                sitd: SitdWords::of(parts),
-                ..none
-            },
+            None => self.kind = 0,
+            Some(HandParts::Queue(parts)) => {
+                self.kind = 1;
+                self.queue = QueueWords::of(&parts.copy, parts.made);
+            }
+            Some(HandParts::Itd(parts)) => {
+                self.kind = 2;
+                self.itd = ItdWords::of(parts);
+            }
+            Some(HandParts::Sitd(parts)) => {
+                self.kind = 3;
+                self.sitd = SitdWords::of(parts);
+            }
         }
     }
 }
@@ -169,7 +166,7 @@ impl FrameWords {
         self.cursor = write(parts.cursor);
         self.index = parts.index;
         self.got_len = received.len() as u16;
-        self.hand = HandWords::of(&parts.hand);
+        self.hand.set(&parts.hand);
         self.heard.set(reply);
         self.got[..received.len()].copy_from_slice(received);
     }
@@ -233,15 +230,6 @@ fn held_of(holds: u8, queue: &QueueWords) -> Option<HeldParts>
     }
 }
 
-fn held_numbers(held: &Option<HeldParts>) -> (u8, QueueWords)
-    ensures { held_in result.0 result.1 ≡ held.now }
-{
-    match held {
-        None => (0, QueueWords::none()),
-        Some(parts) => (1, QueueWords::of(parts, 0)),
-    }
-}
-
 impl RingWords {
     /// A walk that has begun no microframe.
     pub(crate) fn new() -> RingWords
@@ -268,20 +256,32 @@ impl RingWords {
         controller.load_walk(&parts, &self.heard.reply())
     }
 
+    /// The copy in hand, in its place; where there is none the numbers of another stay.
+    fn set_held(&mut self, held: &Option<HeldParts>)
+        ensures held { held_in self.new.holds self.new.queue ≡ held.now }
+        ensures same { self.new ≡ record self.old { holds = self.new.holds; queue = self.new.queue } }
+    {
+        match held {
+            None => self.holds = 0,
+            Some(parts) => {
+                self.holds = 1;
+                self.queue = QueueWords::of(parts, 0);
+            }
+        }
+    }
+
     fn set_numbers(&mut self, parts: &RingParts, reply: &Reply)
         requires { IsCursor parts.now.cursor }
         ensures parts { ring_parts_in self.new ≡ parts.now }
         ensures heard { heard_in self.new.heard ≡ reply.now }
     {
         let (begun, cursor) = cursor_numbers(parts.cursor);
-        let (holds, queue) = held_numbers(&parts.held);
         self.left = parts.left.0;
         self.cursor = cursor;
         self.begun = begun;
         self.mode = mode_number(parts.mode);
         self.first = flag_number(parts.first);
-        self.holds = holds;
-        self.queue = queue;
+        self.set_held(&parts.held);
         self.heard.set(reply);
     }
 
