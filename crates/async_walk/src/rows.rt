@@ -36,6 +36,7 @@ pub enum WalkRow {
 }
 
 /// The row of a queue head that works.
+#[inline(always)]
 fn work(queue_head: &Qh, left: Ps) -> WalkRow
     requires { IsQhInRange queue_head.now }
     ensures sound { IsSound result }
