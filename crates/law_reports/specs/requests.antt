@@ -27,6 +27,7 @@ pub mod Reading
 pub mod HighAsking
 pub mod HighLaws
 pub mod HighGiven
+pub mod AskedSamples
 pub mod Ended
 pub mod Narrowing
 pub mod Missed

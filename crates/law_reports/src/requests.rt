@@ -1,6 +1,7 @@
 //! The control requests of a whole run (EHCI 1.0, 4.10 and 4.12; USB 2.0, 8.5.3): each device acts at most once, and the report tells of
 //! it.
 //!
+//! - `asked_worked`: A worked request along its run, from its open to its act and to the line that tells it done (EHCI 1.0, 4.8 and 4.10; USB 2.0, 8.5.3).
 //! - `driver_requests`: The control requests of a driver's endpoints are those of the ring's queue heads (EHCI 1.0, 3.5, 3.6 and 4.10; USB 2.0, 8.5.3): each is
 //!   a transfer, and is found by the place of its SETUP.
 //! - `high`: Worlds with endpoints of every kind: the requests of control endpoints at high speed (EHCI 1.0, 4.8 and 4.10; USB 2.0, 5.5
@@ -24,6 +25,7 @@
 //!
 //! The module has no code of its own: each function is a law, and its body is empty.
 
+pub mod asked_worked;
 pub mod driver_requests;
 pub mod harvests;
 pub mod high;

@@ -96,3 +96,4 @@ pub mod HighGiven
 pub mod HighLeft
 pub mod HighOpened
 pub mod HighMoments
+pub mod AskedSampled
