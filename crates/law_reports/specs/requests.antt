@@ -28,6 +28,7 @@ pub mod HighAsking
 pub mod HighLaws
 pub mod HighGiven
 pub mod AskedSamples
+pub mod CancelledTold
 pub mod Ended
 pub mod Narrowing
 pub mod Missed

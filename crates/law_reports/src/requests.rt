@@ -26,6 +26,7 @@
 //! The module has no code of its own: each function is a law, and its body is empty.
 
 pub mod asked_worked;
+pub mod cancelled;
 pub mod driver_requests;
 pub mod harvests;
 pub mod high;

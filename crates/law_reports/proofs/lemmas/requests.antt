@@ -97,3 +97,7 @@ pub mod HighLeft
 pub mod HighOpened
 pub mod HighMoments
 pub mod AskedSampled
+pub mod CancelledLines
+pub mod CancelledTold
+pub mod CancelledCommands
+pub mod CancelledMoments

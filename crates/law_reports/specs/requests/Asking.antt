@@ -214,7 +214,7 @@ pub record AsksIn (g : Sides) (member : ℕ → Bool) (parts : StructureSets) (h
   pub read : (e t : ℕ) (x : DriverEndpoint) (y : Transfer) → IsMetControl g d e x → told_end x ≡ None → x.next ≡ Some t
       → slice_get d.transfers t ≡ Some y
       → IsReadTo hand parts (32 * x.queue) (note_at d.notes) y ((a.numbers (32 * x.queue)).requests.requests 0)
-  pub telling : (e : ℕ) (x : DriverEndpoint) → IsMetControl g d e x → x.cancelled ≡ false
+  pub telling : (e : ℕ) (x : DriverEndpoint) → IsMetControl g d e x
       → HasTelling d asks e x g.whole v (a.numbers (32 * x.queue))
   -- of those that are being opened, too
   pub given : (e : ℕ) (x : DriverEndpoint) → IsControlOf g d e x → IsGiven g x.desc

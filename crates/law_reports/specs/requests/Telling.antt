@@ -36,7 +36,8 @@ use Rattle.drv_table.specs.Parts.{Parts}
 use Rattle.drv_table.specs.Rows.{after_driver_row}
 use Rattle.law_queues.specs.told_endpoints.Telling.{lines_in}
 use Rattle.claims_world.specs.Requests.{Windows, numbers_of, window_at, windows_of}
-use Rattle.law_reports.specs.requests.told_requests.Told.{is_cancel, has_cancel, AreToldTo, RequestsAreToldTo}
+use Rattle.claims_world.specs.Pending.{is_cancel}
+use Rattle.law_reports.specs.requests.told_requests.Told.{has_cancel, AreToldTo, RequestsAreToldTo}
 use Rattle.law_reports.specs.requests.told_requests.Rows.{adds_lines, IsHarvested, ReturnsOther, bytes_with}
 use Rattle.law_reports.specs.requests.told_requests.Waiting.{waiting}
 

@@ -53,6 +53,11 @@ pub data TellsAtMost (d f : DriverContent) : Type 0 where
   tells_none : f.reports ≡ d.reports → f.store ≡ d.store → TellsAtMost d f
   tells_one : (e : ℕ) (x : Endpoint) → slice_get d.endpoints e ≡ Some x → x.gone ≡ false → AddsLines d f x.desc.name → TellsAtMost d f
 
+-- .. of this one
+pub data TellsOf (d f : DriverContent) (x : Endpoint) : Type 0 where
+  of_none : f.reports ≡ d.reports → f.store ≡ d.store → TellsOf d f x
+  of_one : AddsLines d f x.desc.name → TellsOf d f x
+
 names_differ : (d : DriverContent) → AreApart d → (e i : ℕ) (x y : Endpoint) → slice_get d.endpoints e ≡ Some x → x.gone ≡ false
     → slice_get d.endpoints i ≡ Some y → y.gone ≡ true → (b : Bool) → is_same_name x.desc.name y.desc.name ≡ b
     → is_same_name x.desc.name y.desc.name ≡ false
@@ -126,11 +131,14 @@ module _ (p : Parts) where
         absurd (false≢true (ap (λ (o : Option EndCause). is_some o) (sym due.goes_on) ∙ steady.ended (steady.gone g).0 (steady.gone g).1)))
         (λ (g : due.endpoint.gone ≡ false). g) (cases_Bool due.endpoint.gone)
 
+    abbrev Of : Type 0
+    Of = TellsOf p.driver (after_driver_row (rows.Harvest e t found) p).driver due.endpoint
+
     -- a descriptor is read
-    described : is_descriptor due.transfer.sort ≡ true → (z : Found) → found ≡ z → AtMost (rows.Harvest e t found)
+    described : is_descriptor due.transfer.sort ≡ true → (z : Found) → found ≡ z → Of
     described is founds.Active same =
         let now = read_is p e t found due founds.Active same in
-        tells_none (ap (λ (f : DriverContent). f.reports) now) (ap (λ (f : DriverContent). f.store) now)
+        of_none (ap (λ (f : DriverContent). f.reports) now) (ap (λ (f : DriverContent). f.store) now)
     described is (founds.Served errors) same =
         let bytes : List ℕ = take due.transfer.most
         (told_bytes (periodic_note p.driver.periodic.notes due.transfer.first) p.memory due.transfer.first) in
@@ -138,7 +146,7 @@ module _ (p : Parts) where
         let line : Report =
         record { name = x.desc.name; what = lines.Iso errors; from = length p.driver.store; len = length bytes } in
         let now = read_is p e t found due (founds.Served errors) same in
-        tells_one e due.endpoint due.here alive (record {
+        of_one (record {
           lines = line ∷ [];
           bytes = bytes;
           reports = ap (λ (f : DriverContent). f.reports) now;
@@ -149,7 +157,7 @@ module _ (p : Parts) where
     described is (founds.Ended n what) same = absurd (never_ended p e t found due is n what same)
 
     -- a token of a qTD is
-    told_qtds : is_descriptor due.transfer.sort ≡ false → AtMost (rows.Harvest e t found)
+    told_qtds : is_descriptor due.transfer.sort ≡ false → Of
     told_qtds moves =
         let row : DriverRow = rows.Harvest e t found in
         let told : IsToldAlike p row =
@@ -159,7 +167,7 @@ module _ (p : Parts) where
         let x : Endpoint = told.due.endpoint in
         let same : x ≡ queued_endpoint due.endpoint =
         same_Some x (queued_endpoint due.endpoint) (sym told.due.here ∙ get_queued p.driver.endpoints e due.endpoint due.here) in
-        tells_one e due.endpoint due.here alive (record {
+        of_one (record {
           lines = l.lines;
           bytes = l.bytes;
           reports = ap (λ (q : Parts). q.driver.reports) told.same ∙ l.reports;
@@ -167,6 +175,16 @@ module _ (p : Parts) where
           named = subst (λ (n : EpName). AllByRecursion (λ (line : Report). line.name ≡ n) l.lines)
               (ap (λ (z : Endpoint). z.desc.name) same ∙ name_same due.endpoint) l.named;
         })
+
+    pub harvest_tells_of : Of
+    harvest_tells_of =
+        ⊎_elim (λ (is : is_descriptor due.transfer.sort ≡ true). described is found refl)
+        (λ (is : is_descriptor due.transfer.sort ≡ false). told_qtds is)
+        (cases_Bool (is_descriptor due.transfer.sort))
+
+    harvest_tells : TellsOf p.driver (after_driver_row (rows.Harvest e t found) p).driver due.endpoint → AtMost (rows.Harvest e t found)
+    harvest_tells (of_none reports store) = tells_none reports store
+    harvest_tells (of_one l) = tells_one e due.endpoint due.here alive l
 
   pub row_tells : (row : DriverRow) → HasOwners p.driver → QueuesTakeTurns p.driver → IsDue p row → AtMost row
   row_tells rows.Lend owners turns due = tells_so rows.Lend (tells_by rows.Lend p refl refl)
@@ -180,7 +198,5 @@ module _ (p : Parts) where
   row_tells (rows.ReleaseTransfer t) owners turns due = tells_so (rows.ReleaseTransfer t) (tells_by (rows.ReleaseTransfer t) p refl refl)
   row_tells (rows.ReleaseEndpoint e) owners turns due = released e (slice_get p.driver.endpoints e) refl
   row_tells (rows.Harvest e t found) owners turns due =
-      ⊎_elim (λ (is : is_descriptor due.transfer.sort ≡ true). described e t found due owners turns is found refl)
-      (λ (is : is_descriptor due.transfer.sort ≡ false). told_qtds e t found due owners turns is)
-      (cases_Bool (is_descriptor due.transfer.sort))
+      harvest_tells e t found due owners turns (harvest_tells_of e t found due owners turns)
   row_tells _ owners turns due = tells_none refl refl

@@ -168,8 +168,7 @@ module _ (sides : Sides) (member : ℕ → Bool) (parts : StructureSets) (hand :
         → (with_queued x dummy (length d.transfers)).next ≡ Some t
         → slice_get (d.transfers ++ new_transfer number q x.dummy ∷ []) t ≡ Some y
         → IsReadTo hand parts (32 * x.queue) (note_at notes) y ((later (32 * x.queue)).requests.requests 0)
-    pub telling : x.cancelled ≡ false
-        → HasTelling (accepted_transfer d number x q h dummy notes).driver now number (with_queued x dummy (length d.transfers)) sides.whole v (later (32 * x.queue))
+    pub telling : HasTelling (accepted_transfer d number x q h dummy notes).driver now number (with_queued x dummy (length d.transfers)) sides.whole v (later (32 * x.queue))
     pub counted : IsCountedOn wire (accepted_transfer d number x q h dummy notes).driver v number (with_queued x dummy (length d.transfers))
 
   pub accepted_asks : AreRecords (accepted_transfer d number x q h dummy notes).driver now a.courses later (has_left sides (accepted_transfer d number x q h dummy notes).driver) v
@@ -200,11 +199,11 @@ module _ (sides : Sides) (member : ℕ → Bool) (parts : StructureSets) (hand :
         (λ differs live first.
         let met = met_before i u is differs in
         subst (λ (k : Numbers). IsReadTo hand parts (32 * u.queue) (note_at notes) y (k.requests.requests 0)) (sym (same i u met differs)) (read_first i t u y met live first there)) going next;
-    telling = λ i u is kept.
-        by i u is.is (λ (j : ℕ) (z : Endpoint). z.cancelled ≡ false → HasTelling taken now j z sides.whole v (later (32 * z.queue))) (λ control. (own control).telling)
-        (λ differs live.
+    telling = λ i u is.
+        by i u is.is (λ (j : ℕ) (z : Endpoint). HasTelling taken now j z sides.whole v (later (32 * z.queue))) (λ control. (own control).telling)
+        (λ differs.
         let met = met_before i u is differs in
-        subst (λ (k : Numbers). HasTelling taken now i u sides.whole v k) (sym (same i u met differs)) (telling_beside i u (a.numbers (32 * u.queue)) differs (world.telling i u met live))) kept;
+        subst (λ (k : Numbers). HasTelling taken now i u sides.whole v k) (sym (same i u met differs)) (telling_beside i u (a.numbers (32 * u.queue)) differs (world.telling i u met)));
     given = λ i u is.
         ⊎_elim (λ (is_own : (i ≡ number) × (u ≡ end)). subst (λ (z : Endpoint). IsGiven sides z.desc) (sym is_own.1) (world.given number x (record { here = here; control = sym (ap (λ (z : Endpoint). sides.asks z.desc) is_own.1) ∙ is.control })))
         (λ (other : (i ≢ number) × (slice_get d.endpoints i ≡ Some u)). world.given i u (record { here = other.1; control = is.control })) (which i u is.here);

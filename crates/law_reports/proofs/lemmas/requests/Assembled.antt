@@ -290,7 +290,7 @@ module _ (g : Sides) (fixed : Fixed) (member : ℕ → Bool) (x : Streams) (s : 
     asked = λ n z has there. q.asked n z (had_queues n has) there;
     publishing = λ e z is on. publishing_by e z is w.driver.command (q.publishing e z is on);
     read = λ e t z y is going next here. read_then e z is t y _ (q.read e t z y is going next here);
-    telling = λ e z is kept. telling_then e z is (q.telling e z is kept);
+    telling = λ e z is. telling_then e z is (q.telling e z is);
     given = q.given;
     counts = counts_then;
     unopened = λ addr num c least none first.

@@ -1,5 +1,5 @@
 -- An endpoint is cancelled: the requests of all control endpoints stand as they did.
-use Rattle.std.proofs.Common.{◌≡◌, ◌≢◌, ℕ, suc, ◌-◌, ◌*◌, ◌&&◌, ◌||◌, not, Bool, true, false, length, slice_get, if◌then◌else◌, Option, Some, None, ap, refl, sym, subst, ◌∙◌, ⊎_elim}
+use Rattle.std.proofs.Common.{◌≡◌, ◌≢◌, ℕ, suc, ◌-◌, ◌*◌, ◌&&◌, ◌||◌, not, Bool, true, false, List, ◌++◌, length, slice_get, if◌then◌else◌, Option, Some, None, ap, refl, sym, subst, ◌∙◌, ⊎_elim}
 use Rattle.std.specs.Prelude.{◌⊎◌}
 use Rattle.std.proofs.lemmas.Bool.{cases_eq, false≢true}
 use Rattle.std.proofs.lemmas.Option.{same_Some}
@@ -27,7 +27,11 @@ use Rattle.claims_world.specs.Requests.{Windows, opens}
 use Rattle.law_reports.specs.requests.driver_requests.Rows.{EndpointStays, KeepsRequests}
 use Rattle.law_reports.specs.requests.Courses.{Course, queue_in}
 use Rattle.law_reports.proofs.lemmas.requests.Rows.{accepted_keeps_records}
+use Rattle.law_devices.specs.ring_requests.Runs.{first_of}
 use Rattle.law_queues.specs.standing_fronts.Tails.{tail_block}
+use Rattle.law_queues.specs.told_endpoints.Telling.{lines_in}
+use Rattle.law_reports.specs.requests.Telling.{IsTelling}
+use Rattle.law_reports.specs.requests.told_requests.Told.{has_cancel}
 use Rattle.law_reports.specs.requests.Asking.{Sides, IsGiven, Asking, left_with, has_left, is_publishing, HasCourse, IsReadTo, HasTelling, IsMetControl, AsksIn}
 use Rattle.usb_base.specs.declared.endpoints.EndCause.TheVariants as causes
 
@@ -70,7 +74,6 @@ module _ (sides : Sides) (member : ℕ → Bool) (parts : StructureSets) (hand :
     linked : was.linked ≡ u.linked
     gone : was.gone ≡ u.gone
     told : u.gone ≡ false → told_end u ≡ told_end was
-    live : u.cancelled ≡ false → was ≡ u
 
   was_one : (i : ℕ) (u : Endpoint) → slice_get (accepted_cancel d number x).endpoints i ≡ Some u → WasControl i u
   was_one i u there =
@@ -85,9 +88,8 @@ module _ (sides : Sides) (member : ℕ → Bool) (parts : StructureSets) (hand :
         linked = refl;
         gone = refl;
         told = λ kept. same_end x x.ended refl (only.endpoints number x here).cancel fresh kept;
-        live = λ on. absurd (false≢true (sym on));
       }))
-      (λ (other : (i ≢ number) × (slice_get d.endpoints i ≡ Some u)). record { was = u; here_was = other.1; desc = refl; queue = refl; dummy = refl; next = refl; linked = refl; gone = refl; told = λ kept. refl; live = λ on. refl })
+      (λ (other : (i ≢ number) × (slice_get d.endpoints i ≡ Some u)). record { was = u; here_was = other.1; desc = refl; queue = refl; dummy = refl; next = refl; linked = refl; gone = refl; told = λ kept. refl })
       (which i u there)
 
   met_was : (i : ℕ) (u : Endpoint) (is : IsMetControl sides (accepted_cancel d number x) i u)
@@ -154,11 +156,20 @@ module _ (sides : Sides) (member : ℕ → Bool) (parts : StructureSets) (hand :
         let b = was_one i u is.is.here in
         subst (λ (j : ℕ). IsReadTo hand parts (32 * j) (note_at d.notes) y ((a.numbers (32 * j)).requests.requests 0)) b.queue
         (world.read i t b.was y (met_was i u is) (sym (b.told is.met.there.kept) ∙ going) (b.next ∙ next) there);
-    telling = λ i u is kept.
+    telling = λ i u is.
         let b = was_one i u is.is.here in
-        let f : HasTelling d asks i u sides.whole v (a.numbers (32 * u.queue)) =
-        subst (λ (z : Endpoint). HasTelling d asks i z sides.whole v (a.numbers (32 * z.queue))) (b.live kept) (world.telling i b.was (met_was i u is) (ap (λ (z : Endpoint). z.cancelled) (b.live kept) ∙ kept)) in
-        record { reported = f.reported; untold = f.untold; closed = f.closed; going = f.going; uncancelled = f.uncancelled; telling = record { numbers = f.telling.numbers; told = f.telling.told; wait = f.telling.wait } };
+        let f : HasTelling d asks i b.was sides.whole v (a.numbers (32 * u.queue)) =
+        subst (λ (j : ℕ). HasTelling d asks i b.was sides.whole v (a.numbers (32 * j))) b.queue (world.telling i b.was (met_was i u is)) in
+        let waits : List ℕ = f.untold ++ first_of (a.numbers (32 * u.queue)).number (a.numbers (32 * u.queue)).requests.count in
+        record {
+          reported = f.reported;
+          untold = f.untold;
+          closed = f.closed;
+          going = λ none. f.going (sym (b.told is.met.there.kept) ∙ none);
+          uncancelled = ap (λ (z : EpDesc). has_cancel (lines_in z.name d.reports)) (sym b.desc) ∙ f.uncancelled;
+          telling = subst (λ (z : EpDesc). IsTelling leaving asks i z.name (sides.whole z.name) v f.reported waits) b.desc
+              (record { numbers = f.telling.numbers; told = f.telling.told; wait = f.telling.wait });
+        };
     given = λ i u is.
         let b = was_one i u is.here in
         subst (IsGiven sides) b.desc (world.given i b.was (record { here = b.here_was; control = ap (λ (z : EpDesc). sides.asks z) b.desc ∙ is.control }));

@@ -307,10 +307,9 @@ module _ (sides : Sides) (member : ℕ → Bool) (parts : StructureSets) (hand :
           subst (IsReadTo hand parts n (note_at notes) y) (sym (ap (λ (z : Bool). if z then r else u.requests.requests 0) (other_number 0 u.requests.count (λ none. let few = some.0 in omega (arith, none, few)))))
           (read_first sides member parts hand a v asks d m wire world number x why.asked h dummy notes why.idle why.here places noted later now asked_old number t x y is_met going (at ∙ ap Some same) there)
 
-      own_telling : x.cancelled ≡ false
-          → HasTelling (accepted_transfer d k.transfers.number k.transfers.endpoint k.transfers.asked h dummy notes).driver now k.transfers.number (with_queued k.transfers.endpoint dummy (length d.transfers)) sides.whole v more
-      own_telling kept =
-          let f = world.telling number x is_met kept in
+      own_telling : HasTelling (accepted_transfer d k.transfers.number k.transfers.endpoint k.transfers.asked h dummy notes).driver now k.transfers.number (with_queued k.transfers.endpoint dummy (length d.transfers)) sides.whole v more
+      own_telling =
+          let f = world.telling number x is_met in
           record {
             reported = f.reported;
             untold = f.untold;
@@ -340,7 +339,7 @@ module _ (sides : Sides) (member : ℕ → Bool) (parts : StructureSets) (hand :
         course = subst (HasCourse sides taken.driver number end c) (sym later_here) own_course;
         publishing = subst (λ (z : Numbers). IsPublishing taken.driver taken.memory end (parts n) c z) (sym later_here) own_publishing;
         read = λ t y going first there. subst (λ (z : Numbers). IsReadTo hand parts n (note_at notes) y (z.requests.requests 0)) (sym later_here) (own_read x.next refl t y going first there);
-        telling = λ kept. subst (λ (z : Numbers). HasTelling taken.driver now number end sides.whole v z) (sym later_here) (own_telling kept);
+        telling = subst (λ (z : Numbers). HasTelling taken.driver now number end sides.whole v z) (sym later_here) own_telling;
         counted = own_counted;
       }
 

@@ -49,7 +49,8 @@ use Rattle.law_queues.proofs.lemmas.harvest_laws.ReadRows.{not_active}
 use Rattle.claims_report.specs.Reports.{is_line_of}
 use Rattle.claims_report.specs.Requests.{Request}
 use Rattle.law_queues.specs.told_endpoints.Telling.{lines_in}
-use Rattle.law_reports.specs.requests.told_requests.Told.{is_cancel, has_cancel}
+use Rattle.claims_world.specs.Pending.{is_cancel}
+use Rattle.law_reports.specs.requests.told_requests.Told.{has_cancel}
 use Rattle.law_reports.specs.requests.told_requests.Rows.{bytes_with}
 use Rattle.law_request.specs.Host.{Endpoint as Characteristics, Stage, Setup, Data, Status, has_data, side_at}
 use Rattle.law_request.specs.Windows.{data_of}
@@ -371,7 +372,7 @@ module _ (g : Sides) (fixed : Fixed) (member : ℕ → Bool) (x : Streams) (s : 
   asked_is = ap asks (sym next_is.0) ∙ rec.numbered.order.requests 0 next_is.1 ∙ ap (λ (z : Sent). z.request) same_sent
 
   pub tell : HasTelling w.driver asks e due.endpoint g.whole v own_numbers
-  tell = j.telling e due.endpoint its uncancelled
+  tell = j.telling e due.endpoint its
 
   rest_of : List ℕ
   rest_of = first_of (λ i. own_numbers.number (suc i)) (own_numbers.requests.count - 1)

@@ -275,9 +275,9 @@ module _ (g : Sides) (fixed : Fixed) (member : ℕ → Bool) (x : Streams) (s : 
             absurd (differs (k.apart i e z is_due.endpoint old.is.here (g.controls z.desc old.is.control) is_due.here (ap (λ (n : EpName). n.addr) same) (ap (λ (n : EpName). n.num) same)))
         by false one = refl
 
-    telling_beside : z.cancelled ≡ false → HasTelling new asks i z g.whole v (a.numbers (32 * z.queue))
-    telling_beside kept =
-        let h = q.telling i z old kept in
+    telling_beside : HasTelling new asks i z g.whole v (a.numbers (32 * z.queue))
+    telling_beside =
+        let h = q.telling i z old in
         record {
           reported = h.reported;
           untold = h.untold;
@@ -352,7 +352,7 @@ module _ (g : Sides) (fixed : Fixed) (member : ℕ → Bool) (x : Streams) (s : 
       (own_each : (z : Endpoint) → IsMetControl g new e z → HasCourse g new e z (b.courses (32 * z.queue)) (b.numbers (32 * z.queue)))
       (own_read : (u : ℕ) (z : Endpoint) (y : Transfer) → IsMetControl g new e z → told_end z ≡ None → z.next ≡ Some u → slice_get new.transfers u ≡ Some y
       → IsReadTo s.hand s.parts (32 * z.queue) (note_at new.notes) y ((b.numbers (32 * z.queue)).requests.requests 0))
-      (own_telling : (z : Endpoint) → IsMetControl g new e z → z.cancelled ≡ false → HasTelling new asks e z g.whole v (b.numbers (32 * z.queue))) where
+      (own_telling : (z : Endpoint) → IsMetControl g new e z → HasTelling new asks e z g.whole v (b.numbers (32 * z.queue))) where
     -- what holds of the endpoint and of the others
     of_each : (P : ℕ → Endpoint → Course → Numbers → Type 0)
         → ((z : Endpoint) → IsMetControl g new e z → P e z (b.courses (32 * z.queue)) (b.numbers (32 * z.queue)))
@@ -382,8 +382,8 @@ module _ (g : Sides) (fixed : Fixed) (member : ℕ → Bool) (x : Streams) (s : 
       read = λ i u z y is going next there.
           of_each (λ i z c n. told_end z ≡ None → z.next ≡ Some u → IsReadTo s.hand s.parts (32 * z.queue) (note_at new.notes) y (n.requests.requests 0))
           (λ z is going next. own_read u z y is going next there) (λ i z is differs going next. read_beside i z is differs u y going next there) i z is going next;
-      telling = λ i z is kept.
-          of_each (λ i z c n. z.cancelled ≡ false → HasTelling new asks i z g.whole v n) own_telling telling_beside i z is kept;
+      telling = λ i z is.
+          of_each (λ i z c n. HasTelling new asks i z g.whole v n) own_telling telling_beside i z is;
       given = λ i z is. subst (IsGiven g) (sym (was_of i z is.here).same.desc) (q.given i (was_of i z is.here).was (was_control i z is));
       counts = counts_now;
       unopened = λ addr num c some none first. q.unopened addr num c some (unopened_was addr num none) first;
@@ -404,6 +404,6 @@ module _ (g : Sides) (fixed : Fixed) (member : ℕ → Bool) (x : Streams) (s : 
       → IsAskingWorld g fixed member s a v asks (record w { driver = ended_driver w e t (founds.Ended m what) })
   beside_asks other =
       asking_new a (λ n differs. (refl, refl)) q.stand records_kept (λ n. refl) (λ n has. has) (λ z is. absurd (none_ends other z is)) (λ u z y is going next there. absurd (none_ends other z is))
-      (λ z is kept. absurd (none_ends other z is))
+      (λ z is. absurd (none_ends other z is))
 
 -- ---- the row of a world of bulk and control endpoints

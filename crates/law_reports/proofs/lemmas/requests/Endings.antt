@@ -156,7 +156,7 @@ module _ (g : Sides) (fixed : Fixed) (member : ℕ → Bool) (x : Streams) (s : 
         asking_new g fixed member x s a v asks w e t m what this turns_then k q later beside r.stand r.records fields (has_with a.courses (32 * this.endpoint.queue) r.course h.queue)
         (own_of (λ z c n. HasCourse g new e z c n) course)
         (λ u z y is goes goes_to there. own_of (λ z c n. told_end z ≡ None → z.next ≡ Some u → IsReadTo s.hand s.parts (32 * z.queue) (note_at new.notes) y (n.requests.requests 0)) (read_at u y there) z is goes goes_to)
-        (λ z is kept. own_of (λ z c n. HasTelling new asks e z g.whole v n) telling z is)
+        (λ z is. own_of (λ z c n. HasTelling new asks e z g.whole v n) telling z is)
 
   going : told_end this.endpoint ≡ None
   going = none_told this.endpoint this.goes_on

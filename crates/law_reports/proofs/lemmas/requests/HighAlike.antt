@@ -99,8 +99,8 @@ module _ (g : Sides) (member : ℕ → Bool) (parts now : StructureSets) (hand l
     asked = q.asked;
     publishing = λ e x is next. publishing e x (met_was e x is) next;
     read = λ e t x y is. read e t x y (met_was e x is);
-    telling = λ e x is kept.
-        let k = q.telling e x (met_was e x is) kept in
+    telling = λ e x is.
+        let k = q.telling e x (met_was e x is) in
         let l : LinesLeave d f asks v e x.desc.name (g.whole x.desc.name) = tells e x (met_was e x is) in
         record {
           reported = k.reported;

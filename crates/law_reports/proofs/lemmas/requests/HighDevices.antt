@@ -55,7 +55,7 @@ pub NoneIsIso : DriverContent → ℕ → ℕ → Type 0
 NoneIsIso d addr num = (e : ℕ) (y : Endpoint) → slice_get d.endpoints e ≡ Some y → is_iso y.desc.kind ≡ true → y.desc.name.addr ≡ addr
     → y.desc.name.num ≡ num → ⊥
 
-control_iso : (kind : EpKind) → is_control kind ≡ true → is_iso kind ≡ true → ⊥
+pub control_iso : (kind : EpKind) → is_control kind ≡ true → is_iso kind ≡ true → ⊥
 control_iso kinds.Control on iso = false≢true iso
 control_iso _ on iso = false≢true on
 

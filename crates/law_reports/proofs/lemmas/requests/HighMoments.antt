@@ -5,6 +5,7 @@ use Rattle.usb_base.specs.declared.commands.Cmd.{Cmd}
 use Rattle.script_types.specs.declared.scripts.Line.{Line}
 use Rattle.script_types.specs.declared.scripts.Line.TheVariants as lines
 use Rattle.script_types.specs.declared.scripts.Script.{Script}
+use Rattle.script_text.specs.Faults.{Spells}
 use Rattle.script_fits.proofs.Texts.{spelled_fits}
 use Rattle.bus_wire.specs.Bus.{fixed_of}
 use Rattle.claims_report.specs.Requests.{Request}
@@ -31,11 +32,11 @@ use Rattle.law_reports.proofs.lemmas.requests.HighGiven.{texts_suit}
 use Rattle.law_reports.proofs.lemmas.requests.HighOpening.{new_world_high_asks}
 use Rattle.law_reports.proofs.lemmas.requests.HighWorld.{driver_keeps_high_asks, command_keeps_high_asks}
 
-record CanHigh (s : Script) (cmd : Cmd) : Type 0 where
-  fits : OpensMixed cmd
-  declares : OpensDeclared (pipes_of s) cmd
-  suits : SuitsCommand (high_sides_of s) cmd
-  bytes : IsByteCommand cmd
+pub record CanHigh (s : Script) (cmd : Cmd) : Type 0 where
+  pub fits : OpensMixed cmd
+  pub declares : OpensDeclared (pipes_of s) cmd
+  pub suits : SuitsCommand (high_sides_of s) cmd
+  pub bytes : IsByteCommand cmd
 
 line_high : (s : Script) (line : Line) → runs.KindOfLine OpensMixed line → runs.KindOfLine (OpensDeclared (pipes_of s)) line
     → SuitsLine (high_sides_of s) line → IsByteLine line → KindOfLine (CanHigh s) line
@@ -49,13 +50,18 @@ lines_high s [] fits declares suits bytes = tt
 lines_high s (l ∷ ls) fits declares suits bytes =
     (line_high s l.1 fits.0 declares.0 suits.0 bytes.0, lines_high s ls fits.1 declares.1 suits.1 bytes.1)
 
+-- each line of a text
+pub high_lines : (text : List ℕ) (s : Script) → Spells text s → AllByRecursion (λ l. KindOfLine (CanHigh s) l.1) s.lines
+high_lines text s spelled =
+    lines_high s s.lines (lines_can s.lines (lines_fit s.lines (texts_fit text s spelled) (texts_open_fitting text s spelled)))
+    (texts_declare text s spelled) (texts_suit text s spelled) (a_text_spells_bytes text s spelled).lines
+
 pub texts_have_high_asks : TextsHaveHighAsks
 texts_have_high_asks text s spelled n =
     let bytes : IsByteScript s = a_text_spells_bytes text s spelled in
     holds_with_windows (CanHigh s)
     (λ (w : World) (v : Windows) (asks : ℕ → Request). HasHighAsks (high_sides_of s) (fixed_of s) (pipes_of s) v asks w) s (spelled_fits text s spelled)
-    (lines_high s s.lines (lines_can s.lines (lines_fit s.lines (texts_fit text s spelled) (texts_open_fitting text s spelled)))
-    (texts_declare text s spelled) (texts_suit text s spelled) bytes.lines)
+    (high_lines text s spelled)
     (new_world_high_asks s (high_sides_of s) (spelled_fits text s spelled) bytes (λ addr num c first. first))
     (record {
       driver = λ w v asks h. driver_keeps_high_asks (high_sides_of s) (fixed_of s) (pipes_of s) v asks w h;

@@ -237,9 +237,9 @@ module _ (g : Sides) (member : ℕ → Bool) (parts : StructureSets) (hand : Han
           let old : slice_get d.transfers t ≡ Some of.own = ap (slice_get d.transfers) (sym first.1) ∙ of.here in
           let same : of.own ≡ y = same_Some of.own y (sym (still_transfer t of.own old) ∙ there) in
           q.read e t x y was going next (old ∙ ap (λ (z : Transfer). Some z) same);
-      telling = λ e x is kept.
+      telling = λ e x is.
           let was = met_was e x is in
-          let k = q.telling e x was kept in
+          let k = q.telling e x was in
           record {
             reported = k.reported;
             untold = k.untold;

@@ -59,8 +59,8 @@ module _ (g : Sides) (member : ℕ → Bool) (parts now : StructureSets) (hand :
     asked = q.asked;
     publishing = λ e x is next. publishing e x (met_before e x is) next;
     read = λ e t x y is. read e t x y (met_before e x is);
-    telling = λ e x is kept.
-        let k = q.telling e x (met_before e x is) kept in
+    telling = λ e x is.
+        let k = q.telling e x (met_before e x is) in
         record { reported = k.reported; untold = k.untold; closed = k.closed; going = k.going; uncancelled = k.uncancelled; telling = record { numbers = k.telling.numbers; told = k.telling.told; wait = k.telling.wait } };
     given = λ e x is. q.given e x (record { here = is.here; control = is.control });
     counts = λ e x is off. let k = q.counts e x (record { here = is.here; control = is.control }) off in record { device = k.device; is = k.is; acted = k.acted };

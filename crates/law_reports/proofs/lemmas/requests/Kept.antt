@@ -178,7 +178,7 @@ module _ (g : Sides) (fixed : Fixed) (p : Pipes) (v : Windows) (asks : ℕ → R
   pub lines_tell : x.cancelled ≡ false
       → AreTold (g.whole x.desc.name) (report_of fixed w).store (windows_of w.driver asks v e) (lines_of (report_of fixed w) x.desc.name)
   lines_tell stays =
-      let t = h.world.telling e y (met (left_or y.linked _ (linked (going stays) y.linked refl))) (going stays) in
+      let t = h.world.telling e y (met (left_or y.linked _ (linked (going stays) y.linked refl))) in
       report_tells fixed w x.desc.name (g.whole x.desc.name) (windows_of w.driver asks v e) _
       (told_so _ (telling_is_told d asks e y.desc.name (g.whole y.desc.name) v t.reported _ t.telling))
 

@@ -190,12 +190,12 @@ module _ (g : Sides) (fixed : Fixed) (member : ℕ → Bool) (s : Standing) (a :
     (q : Parts) (k : RowLeaves w.driver q.driver) (z : IsAskingWorld g fixed member s a v asks w) where
   module _ (tells : (e : ℕ) (x : Endpoint) → IsMetControl g q.driver e x → LinesLeave w.driver q.driver asks v e x.desc.name (g.whole x.desc.name))
       (lines : (name : EpName) → IsUnheard q.driver name → lines_in name q.driver.reports ≡ lines_in name w.driver.reports) where
-    tells_still : (e : ℕ) (x : Endpoint) → (m : IsMetControl g q.driver e x) → x.cancelled ≡ false
+    tells_still : (e : ℕ) (x : Endpoint) → (m : IsMetControl g q.driver e x)
         → HasTelling q.driver asks e x g.whole v (a.numbers (32 * x.queue))
-    tells_still e x m going =
+    tells_still e x m =
         let y = k.was e x m.is.here in
         let h : HasTelling w.driver asks e y.was g.whole v (a.numbers (32 * x.queue)) =
-        subst (λ (b : ℕ). HasTelling w.driver asks e y.was g.whole v (a.numbers (32 * b))) y.queue (z.telling e y.was (was_met g w.driver q.driver k e x m) (y.cancelled ∙ going)) in
+        subst (λ (b : ℕ). HasTelling w.driver asks e y.was g.whole v (a.numbers (32 * b))) y.queue (z.telling e y.was (was_met g w.driver q.driver k e x m)) in
         let l : LinesLeave w.driver q.driver asks v e x.desc.name (g.whole x.desc.name) = tells e x m in
         record {
           reported = h.reported;

@@ -199,8 +199,8 @@ module _ (g : Sides) (fixed : Fixed) (member : ℕ → Bool) (x : Streams) (s : 
     asked = q.asked;
     publishing = λ i z is on. subst (λ (o : Option Command). IsPublishingBy f w.memory z (s.parts (32 * z.queue)) (a.courses (32 * z.queue)) (a.numbers (32 * z.queue)) o) (sym is_due.idle) tt;
     read = λ i u z y is going next here. read_then i u z y (was_met i z is) going next here;
-    telling = λ i z is kept.
-        let h = q.telling i z (was_met i z is) kept in
+    telling = λ i z is.
+        let h = q.telling i z (was_met i z is) in
         record {
           reported = h.reported;
           untold = h.untold;

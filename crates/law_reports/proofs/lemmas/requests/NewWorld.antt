@@ -53,7 +53,7 @@ module _ (s : Script) (g : Sides) (first : IsFirst s g) (member : ℕ → Bool) 
     asked = λ n z has here. absurd (false≢true has);
     publishing = λ e z is on. absurd (no_endpoint e z is.is.here);
     read = λ e t z y is going next here. absurd (no_endpoint e z is.is.here);
-    telling = λ e z is kept. absurd (no_endpoint e z is.is.here);
+    telling = λ e z is. absurd (no_endpoint e z is.is.here);
     given = λ e z is. absurd (no_endpoint e z is.here);
     counts = λ e z is off. absurd (no_endpoint e z is.here);
     unopened = λ addr num c least none is. first addr num c is;

@@ -274,15 +274,15 @@ module _ (g : Sides) (fixed : Fixed) (member : ℕ → Bool) (x : Streams) (s : 
         subst (λ (h : Numbers). IsReadTo held now (32 * y.queue) (note_at w.driver.notes) u (h.requests.requests 0)) (sym (numbers_same (32 * y.queue) (beside i y m.is.here m.met.there.kept other)))
         (read_still y u _ (z.read i t y u (met_was i y m other) on is there))) going next
 
-    telling_now : (i : ℕ) (y : Endpoint) → IsMetControl g new i y → y.cancelled ≡ false
+    telling_now : (i : ℕ) (y : Endpoint) → IsMetControl g new i y
         → HasTelling new asks i y g.whole v (asking.numbers (32 * y.queue))
-    telling_now i y m kept =
-        by_one (λ (j : ℕ) (t : Endpoint). t.cancelled ≡ false → HasTelling new asks j t g.whole v (asking.numbers (32 * t.queue))) i y m.is.here
-        (λ same off. let on = own_control i y m.is same in telling_new on (asking.numbers n) (empty on).0 (empty on).1)
-        (λ other off.
-        let f : HasTelling w.driver asks i y g.whole v (a.numbers (32 * y.queue)) = z.telling i y (met_was i y m other) off in
+    telling_now i y m =
+        by_one (λ (j : ℕ) (t : Endpoint). HasTelling new asks j t g.whole v (asking.numbers (32 * t.queue))) i y m.is.here
+        (λ same. let on = own_control i y m.is same in telling_new on (asking.numbers n) (empty on).0 (empty on).1)
+        (λ other.
+        let f : HasTelling w.driver asks i y g.whole v (a.numbers (32 * y.queue)) = z.telling i y (met_was i y m other) in
         subst (HasTelling new asks i y g.whole v) (sym (numbers_same (32 * y.queue) (beside i y m.is.here m.met.there.kept other)))
-        (record { reported = f.reported; untold = f.untold; closed = f.closed; going = f.going; uncancelled = f.uncancelled; telling = record { numbers = f.telling.numbers; told = f.telling.told; wait = f.telling.wait } })) kept
+        (record { reported = f.reported; untold = f.untold; closed = f.closed; going = f.going; uncancelled = f.uncancelled; telling = record { numbers = f.telling.numbers; told = f.telling.told; wait = f.telling.wait } }))
 
     counts_now : (i : ℕ) (y : Endpoint) → IsControlOf g new i y → IsCountedOn wire new v i y
     counts_now i y m =

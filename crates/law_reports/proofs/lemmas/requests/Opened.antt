@@ -111,8 +111,8 @@ module _ (sides : Sides) (member : ℕ → Bool) (parts : StructureSets) (hand :
         ap (λ (z : Endpoint). sides.asks z.desc) (sym own) ∙ world.asked n end.own has end.here;
     publishing = λ i u is next. absurd (false≢true next);
     read = λ i t u y is going next there. world.read i t u y (met_was i u is) going next there;
-    telling = λ i u is kept.
-        let f = world.telling i u (met_was i u is) kept in
+    telling = λ i u is.
+        let f = world.telling i u (met_was i u is) in
         record { reported = f.reported; untold = f.untold; closed = f.closed; going = f.going; uncancelled = f.uncancelled; telling = record { numbers = f.telling.numbers; told = f.telling.told; wait = f.telling.wait } };
     given = λ i u is.
         ⊎_elim {C = IsGiven sides u.desc} (λ (old : slice_get d.endpoints i ≡ Some u). world.given i u (record { here = old; control = is.control }))

@@ -177,8 +177,8 @@ module _ (g : Sides) (fixed : Fixed) (member : ℕ → Bool) (s : Standing) (a :
     asked = q.asked;
     publishing = λ e z is on. publishing_then z (s.parts (32 * z.queue)) (a.courses (32 * z.queue)) (a.numbers (32 * z.queue)) w.driver.command (q.publishing e z (was_met e z is) on);
     read = λ e t z y is going next here. q.read e t z y (was_met e z is) going next here;
-    telling = λ e z is kept.
-        let h = q.telling e z (was_met e z is) kept in
+    telling = λ e z is.
+        let h = q.telling e z (was_met e z is) in
         let k = telling_asked d asks now v same e z.desc.name (g.whole z.desc.name) h.reported _ h.telling in
         record {
           reported = h.reported;

@@ -82,8 +82,8 @@ module _ (g : Sides) (fixed : Fixed) (member : ℕ → Bool) (s : Standing) (a :
       asked = q.asked;
       publishing = λ e z is on. subst (λ (o : Option Command). IsPublishingBy f w.memory z (s.parts (32 * z.queue)) (a.courses (32 * z.queue)) (a.numbers (32 * z.queue)) o) (sym idle) tt;
       read = λ e t z y is going next here. q.read e t z y (was_met e z is) going next here;
-      telling = λ e z is kept.
-          let h = q.telling e z (was_met e z is) kept in
+      telling = λ e z is.
+          let h = q.telling e z (was_met e z is) in
           record {
             reported = h.reported;
             untold = h.untold;

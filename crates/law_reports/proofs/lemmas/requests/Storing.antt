@@ -371,7 +371,7 @@ module _ (sides : Sides) (fixed : Fixed) (member : ℕ → Bool) (x : Streams) (
     publishing = λ i u is next. absurd (false≢true next);
     read = λ i t u y is going next there.
         subst (λ (h : Numbers). IsReadTo s.hand now (32 * u.queue) (note_at d.notes) y (h.requests.requests 0)) (sym (same (32 * u.queue))) (read_then i t u y (met_done i u is) going next there);
-    telling = λ i u is kept. subst (λ (h : Numbers). HasTelling finished asks i u sides.whole v h) (sym (same (32 * u.queue))) (telling_done i u (a.numbers (32 * u.queue)) (q.telling i u (met_done i u is) kept));
+    telling = λ i u is. subst (λ (h : Numbers). HasTelling finished asks i u sides.whole v h) (sym (same (32 * u.queue))) (telling_done i u (a.numbers (32 * u.queue)) (q.telling i u (met_done i u is)));
     given = λ i u is. q.given i u (record { here = is.here; control = is.control });
     counts = λ i u is off.
         let f = q.counts i u (record { here = is.here; control = is.control }) (ap (λ (c : Option Command). opens c u.queue && not u.gone) command) in

@@ -19,7 +19,8 @@ use Rattle.drv_table.specs.Rows.{after_driver_row}
 use Rattle.claims_world.specs.Requests.{Windows, window_at}
 use Rattle.law_reports.proofs.lemmas.requests.lemmas.driver_requests.RowOrder.{row_numbers}
 use Rattle.law_reports.proofs.lemmas.requests.lemmas.driver_requests.Ordering.{numbers_more, numbers_still}
-use Rattle.law_reports.specs.requests.told_requests.Told.{is_cancel, AreToldTo, RequestsAreToldTo}
+use Rattle.claims_world.specs.Pending.{is_cancel}
+use Rattle.law_reports.specs.requests.told_requests.Told.{AreToldTo, RequestsAreToldTo}
 use Rattle.law_reports.specs.requests.told_requests.Waiting.{waiting}
 use Rattle.law_reports.proofs.lemmas.requests.lemmas.told_requests.Harvests.{other_harvests_stay, other_returns_stay, harvest_goes_on, harvest_ends, harvest_stalls}
 use Rattle.law_reports.proofs.lemmas.requests.lemmas.told_requests.Quiet.{quiet_rows_keep_lines}

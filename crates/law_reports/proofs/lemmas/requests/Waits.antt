@@ -53,8 +53,8 @@ module _ (g : Sides) (fixed : Fixed) (member : ℕ → Bool) (s : Standing) (a :
     asked = q.asked;
     publishing = λ i z is on. subst (λ (o : Option Command). IsPublishingBy f w.memory z (s.parts (32 * z.queue)) (a.courses (32 * z.queue)) (a.numbers (32 * z.queue)) o) (sym idle) tt;
     read = λ i t z y is going next here. q.read i t z y (was_met i z is) going next here;
-    telling = λ i z is kept.
-        let h = q.telling i z (was_met i z is) kept in
+    telling = λ i z is.
+        let h = q.telling i z (was_met i z is) in
         record {
           reported = h.reported;
           untold = h.untold;

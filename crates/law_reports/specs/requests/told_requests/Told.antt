@@ -4,24 +4,19 @@
 --     has_cancel lines           one of these lines tells that the endpoint was cancelled
 --     AreToldTo ..               the lines of an endpoint, whose bytes are stored, tell of these windows, and those are left
 --     RequestsAreToldTo d ..     so do the lines of a driver
-use Rattle.std.specs.Prelude.{◌≡◌, ℕ, Bool, true, false, List, [], ◌∷◌, length}
+use Rattle.std.specs.Prelude.{◌≡◌, ℕ, Bool, List, [], ◌∷◌, length}
 use Rattle.std.specs.List.{list_any}
 use Rattle.usb_base.specs.declared.endpoints.EpName.{EpName}
 use Rattle.usb_base.specs.declared.reports.Report.{Report}
-use Rattle.usb_base.specs.declared.reports.What.{What}
-use Rattle.usb_base.specs.declared.reports.What.TheVariants.{Cancel}
 use Rattle.report_text.specs.ReportText.{AreStored}
 use Rattle.claims_report.specs.Requests.{Request, Window, left_by, AreTold}
 use Rattle.drv_table.specs.DriverContent.{DriverContent}
 use Rattle.law_queues.specs.told_endpoints.Telling.{lines_in}
+use Rattle.claims_world.specs.Pending.{is_cancel}
 
 abbrev pub left_after : List Report → List Window → List Window
 left_after [] ws = ws
 left_after (line ∷ rest) ws = left_after rest (left_by line.what ws)
-
-abbrev pub is_cancel : What → Bool
-is_cancel Cancel = true
-is_cancel _ = false
 
 abbrev pub has_cancel : List Report → Bool
 has_cancel lines = list_any (λ line. is_cancel line.what) lines

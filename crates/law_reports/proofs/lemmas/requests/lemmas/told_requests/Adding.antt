@@ -107,7 +107,7 @@ module _ (d : DriverContent) (m : Mem) (name : EpName) (takes : Endpoint → Boo
 
 -- ---- descriptors
 
-descriptors_owned : (k : Book) (e : ℕ) (x : EpDesc) (s : Slots) (n seed : ℕ) (runs : List ℕ) (a : Descriptors) → map owner_at (all_descriptors k e x s n seed runs a).transfers ≡ map owner_at a.transfers ++ replicate n e
+pub descriptors_owned : (k : Book) (e : ℕ) (x : EpDesc) (s : Slots) (n seed : ℕ) (runs : List ℕ) (a : Descriptors) → map owner_at (all_descriptors k e x s n seed runs a).transfers ≡ map owner_at a.transfers ++ replicate n e
 unfolding all_descriptors
 descriptors_owned k e x s zero seed runs a = sym (append-nil (map owner_at a.transfers))
 descriptors_owned k e x s (suc n) seed runs a =

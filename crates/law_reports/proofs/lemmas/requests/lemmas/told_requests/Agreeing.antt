@@ -60,7 +60,7 @@ not_there : (o e n : ℕ) (xs : List ℕ) (b : Bool) → (o == e) ≡ b → o �
 not_there o e n xs true is differs = absurd (differs (eqb-true o e is))
 not_there o e n xs false is differs = refl
 
-numbers_none : (e n : ℕ) (os : List ℕ) → AllByRecursion (λ o. o ≢ e) os → numbers_in e n os ≡ []
+pub numbers_none : (e n : ℕ) (os : List ℕ) → AllByRecursion (λ o. o ≢ e) os → numbers_in e n os ≡ []
 unfolding numbers_in
 numbers_none e n [] none = refl
 numbers_none e n (o ∷ os) none = not_there o e n (numbers_in e (suc n) os) (o == e) refl none.0 ∙ numbers_none e (suc n) os none.1

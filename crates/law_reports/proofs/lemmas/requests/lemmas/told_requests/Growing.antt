@@ -79,6 +79,15 @@ module _ (d : DriverContent) (cmd : Cmd) (asks : ℕ → Request) (v : Windows) 
         ∙ ap (λ (ws : List Window). ws ++ map (window_at then_asks v) (numbers_in e (0 + length (owners_in d)) more)) (sym (of_owners d asks v e));
   }
 
+  -- none of them is of this endpoint
+  pub none_added : (c : DriverContent) (more : List ℕ) → owners_in c ≡ owners_in d ++ more → numbers_in e (0 + length (owners_in d)) more ≡ []
+      → windows_of c (asks_then d cmd asks) v e ≡ windows_of d asks v e
+  unfolding owners_more
+  none_added c more is none =
+      (owners_more c more is).are
+      ∙ ap (λ (ns : List ℕ). windows_of d asks v e ++ map (window_at (asks_then d cmd asks) v) ns) none
+      ∙ append-nil (windows_of d asks v e)
+
   added_more : (c : DriverContent) → Adds d cmd c → HasMore (windows_of d asks v e) (windows_of c then_asks v e)
   added_more c (opens k) = owners_more c [] (k.owners ∙ sym (append-nil (owners_in d)))
   added_more c (asks_one k) = owners_more c (k.number ∷ []) k.owners

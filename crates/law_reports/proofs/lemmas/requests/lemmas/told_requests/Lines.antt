@@ -12,7 +12,7 @@ use Rattle.law_reports.specs.requests.told_requests.Steps.{NoneIsTold, LineIsTol
 -- ---- the lines of one endpoint
 
 -- they tell the same where the store is longer
-still_told : (whole : Request → List ℕ) (store bytes : List ℕ) (lines : List Report) (ws : List Window) → AreStored lines (length store) → AreTold whole store ws lines → AreTold whole (store ++ bytes) ws lines
+pub still_told : (whole : Request → List ℕ) (store bytes : List ℕ) (lines : List Report) (ws : List Window) → AreStored lines (length store) → AreTold whole store ws lines → AreTold whole (store ++ bytes) ws lines
 still_told whole store bytes [] ws stored told = tt
 still_told whole store bytes (line ∷ rest) ws stored told = (
   subst (λ (xs : List ℕ). IsTold whole line.what xs ws) (sym (bytes_more line store bytes stored.0)) told.0,

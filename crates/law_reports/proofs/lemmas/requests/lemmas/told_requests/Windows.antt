@@ -9,7 +9,8 @@ use Rattle.usb_base.specs.declared.reports.What.TheVariants as lines
 use Rattle.claims_report.specs.Requests.{Request, Window, IsTold, left_by, AreTold}
 use Rattle.report_text.specs.ReportText.{bytes_of}
 use Rattle.law_queues.specs.told_endpoints.Telling.{lines_in}
-use Rattle.law_reports.specs.requests.told_requests.Told.{left_after, is_cancel, has_cancel}
+use Rattle.law_reports.specs.requests.told_requests.Told.{left_after, has_cancel}
+use Rattle.claims_world.specs.Pending.{is_cancel}
 use Rattle.law_reports.specs.requests.told_requests.Steps.{WindowsHaveFront, WindowsGrow}
 
 -- a line that is no cancel takes the first window
