@@ -92,7 +92,8 @@ SAYS = {
     "errors": "Where no line of a script loses or damages a packet between the controller and a hub or a device at high speed, and no interrupt endpoint at high speed ever answers with NYET: at each moment each line "
               "that tells `halt error` is of an endpoint at low or full speed, whatever is lost below translators, and whatever the script holds, cancels and asks of hubs.",
     "requests": "Whatever a script opens: at each moment a device that is no hub acted on each request of its control endpoint at high speed at most once, and on nothing but its setup bytes; "
-                "of an endpoint that isn't cancelled a request that is told done was acted on exactly once, with all its data, and one that halted tells a beginning of them.",
+                "a request that is told done was acted on exactly once, with all its data, and one that halted tells a beginning of them, in the order in which they were asked, also of an endpoint that was cancelled; "
+                "but of the line of the cancel itself nothing is said. After the run its requests are all that the script has for the endpoint.",
     "answers": "At each command of a script: it is refused for the first cause that stands, in the order busy, no endpoint, closed, already open, too long, no placement, no blocks (with the run of blocks that isn't there, and the longest that is), "
                "one line tells this and nothing else changes; or none of them stands, and it is accepted, without a line. Then it adds what it asks for, and changes nothing else of endpoints and transfers: one endpoint of its description; one transfer of its endpoint, whose qTDs have just its bytes, none of them moved; "
                "so many isochronous transfers of its endpoint's slots; or its endpoint is cancelled, and ends if it hadn't. That an endpoint is closed is what the driver knows of its end: that a line told it isn't said, nor what memory holds for the transfer.",

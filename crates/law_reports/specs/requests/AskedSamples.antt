@@ -1,10 +1,13 @@
 -- A script for worked rows of a control request along its run (EHCI 1.0, 4.8 and 4.10; USB 2.0, 8.5.3): the control endpoint of device 3
 -- is opened, and asked for 18 bytes, of which the device has two. The driver has two events for the open and nine for the request; then
--- come 19 events of the controller, three transactions among them: SETUP, the data and the status; and the driver reads what became of each.
+-- come 19 events of the controller, three transactions among them: SETUP, the data and the status; and the driver reads what became of
+-- each.
 --     asked_once        the script
 --     asked_windows k   the windows of its endpoint 0 at moment k
 --     asked_lines       its lines, once all is carried out
 --     its_window acts   its only request is the read, and these are the acts in its window
+--     asked_cancelled   the script with a cancel behind it, two events of the driver and two microframes
+--     cancelled_lines   its lines once all is carried out
 --     asked_hub         a script that opens the control endpoint of its hub 4
 use Rattle.std.specs.Prelude.{ℕ, List, [], ◌∷◌}
 use Rattle.usb_base.specs.declared.commands.Cmd.TheVariants as commands
@@ -43,6 +46,23 @@ asked_windows k = windows_then asked_once k 0
 
 abbrev pub asked_lines : List Report
 asked_lines = lines_of (report_at asked_once 39) zero.name
+
+abbrev pub asked_cancelled : Script
+asked_cancelled = record asked_once {
+  lines = (5, lines.Command (commands.OpenEp zero))
+      ∷ (6, lines.Order events.D 2)
+      ∷ (7, lines.Command (commands.Control zero.name reading []))
+      ∷ (8, lines.Order events.D 9)
+      ∷ (9, lines.Order events.C 19)
+      ∷ (10, lines.Order events.D 3)
+      ∷ (11, lines.Command (commands.Cancel zero.name))
+      ∷ (12, lines.Order events.D 2)
+      ∷ (13, lines.Micro 2)
+      ∷ [];
+}
+
+abbrev pub cancelled_lines : List Report
+cancelled_lines = lines_of (report_at asked_cancelled 100) zero.name
 
 abbrev pub its_window : List (List ℕ) → Window
 its_window acts = record { request = record { setup = reading; bytes = [] }; acts = acts }

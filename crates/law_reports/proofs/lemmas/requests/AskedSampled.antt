@@ -13,14 +13,14 @@ use Rattle.mem_bytes.specs.Bytes.{words_from, put_byte, places, bytes_at, put_by
 use Rattle.qh_qtd.specs.Token.{token_word, token_at}
 use Rattle.qh_qtd.specs.Qtd.{qtd_words, qtd_bad, qtd_at, qtd_read}
 use Rattle.qh_qtd.specs.QueueHead.{qh_words, qh_bad, qh_at, qh_read}
-use Rattle.usb_base.specs.declared.reports.What.TheVariants.{Done}
+use Rattle.usb_base.specs.declared.reports.What.TheVariants.{Done, Cancel}
 use Rattle.mem_runs.specs.Book.{lend_runs, store_words}
 use Rattle.hc_copy.specs.Overlay.{advanced, settled_queue, moved}
 use Rattle.hc_copy.specs.WriteBack.{overlay_after, written_back, raised}
 use Rattle.async_walk.specs.Naks.{reloaded, counted_queue}
 use Rattle.drv_table.specs.declared.content.Endpoint.{Endpoint}
 use Rattle.drv_table.specs.Harvests.{buffer_bytes, moved_bytes, bytes_now}
-use Rattle.drv_table.specs.Releases.{free_qtds, free_transfers}
+use Rattle.drv_table.specs.Releases.{free_qtds, free_transfers, cancelled_bytes}
 use Rattle.bus_wire.specs.Bus.{Fixed, fixed_of}
 use Rattle.bus_world.specs.Budgets.{moment}
 use Rattle.bus_world.specs.Orders.{Left, Events, Microframes, Answer, Command, Plugs, ticks}
@@ -30,10 +30,11 @@ use Rattle.claims_report.specs.Reports.{acted}
 use Rattle.claims_report.specs.Requests.{Window, data_of, AreTold}
 use Rattle.claims_world.specs.Carried.{carried_in, carried_from, carried}
 use Rattle.claims_world.specs.Requests.{Windows, no_windows, after_event, after_orders, windows_at, asks_at, windows_of, report_at}
-use Rattle.claims_world.specs.Requests.{IsOfDevice}
+use Rattle.claims_world.specs.Requests.{windows_then, before_cancel, IsOfDevice}
 use Rattle.law_world.proofs.lemmas.memory.Carrying.{carried_then}
 use Rattle.law_devices.specs.declared_controls.Samples.{zero as control, reading}
 use Rattle.law_reports.specs.requests.AskedSamples.{asked_once, asked_windows, asked_lines, its_window, asked_hub}
+use Rattle.law_reports.specs.requests.AskedSamples.{asked_cancelled, cancelled_lines}
 
 -- ---- the windows are carried along
 
@@ -144,3 +145,49 @@ hub_addr x here = ap (λ (y : Endpoint). y.desc.name.addr) (sym (same_Some _ x h
 pub no_hub : (x : Endpoint) → IsOfDevice asked_hub 3 0 x → ⊥
 no_hub x k =
     true≢false (sym (ap (is_of_hub asked_hub) (hub_addr x k.opened.here)) ∙ k.device)
+
+-- ---- a cancel
+
+abbrev cancelled_then : Windows → List Window
+cancelled_then v = windows_of (moment asked_cancelled 100).world.driver (asks_at asked_cancelled 100) v 0
+
+cancelled_windows : cancelled_then (carried after_event asked_cancelled no_windows 100) ≡ its_window (reading ∷ []) ∷ []
+unfolding ticks carried_from asks_at lowest_run filled words_in with_words_in store_words lend_runs first_bad_bit link_read qtd_link_read
+    link_word qtd_link_word token_word token_at qtd_words qtd_bad qtd_at qtd_read qh_words qh_bad qh_at qh_read words_from put_byte places
+    bytes_at put_bytes reached all_reached stored loaded advanced settled_queue moved overlay_after written_back raised reloaded
+    counted_queue buffer_bytes moved_bytes bytes_now free_qtds free_transfers cancelled_bytes
+cancelled_windows = refl
+
+pub cancelled_window : windows_then asked_cancelled 100 0 ≡ its_window (reading ∷ []) ∷ []
+cancelled_window = ap cancelled_then (windows_carried asked_cancelled 100) ∙ cancelled_windows
+
+pub cancelled_told :
+    ((moment asked_cancelled 100).orders ≡ [])
+    × (cancelled_lines
+    ≡ record { name = control.name; what = Done; from = 0; len = 2 }
+    ∷ record { name = control.name; what = Cancel; from = 2; len = 0 } ∷ [])
+    × (before_cancel cancelled_lines ≡ record { name = control.name; what = Done; from = 0; len = 2 } ∷ [])
+unfolding ticks lowest_run filled words_in with_words_in store_words lend_runs first_bad_bit link_read qtd_link_read link_word
+    qtd_link_word token_word token_at qtd_words qtd_bad qtd_at qtd_read qh_words qh_bad qh_at qh_read words_from put_byte places bytes_at
+    put_bytes reached all_reached stored loaded advanced settled_queue moved overlay_after written_back raised reloaded counted_queue
+    buffer_bytes moved_bytes bytes_now free_qtds free_transfers cancelled_bytes
+cancelled_told = (refl, refl, refl)
+
+abbrev KnownThen : Endpoint → Type 0
+KnownThen x = IsOfDevice asked_cancelled 100 0 x × (x.cancelled ≡ true)
+
+known_then : (x : Endpoint) → slice_get (moment asked_cancelled 100).world.driver.endpoints 0 ≡ Some x → KnownThen x
+unfolding ticks lowest_run filled words_in with_words_in store_words lend_runs first_bad_bit link_read qtd_link_read link_word
+    qtd_link_word token_word token_at qtd_words qtd_bad qtd_at qtd_read qh_words qh_bad qh_at qh_read words_from put_byte places bytes_at
+    put_bytes reached all_reached stored loaded advanced settled_queue moved overlay_after written_back raised reloaded counted_queue
+    buffer_bytes moved_bytes bytes_now free_qtds free_transfers cancelled_bytes
+known_then x here =
+    subst KnownThen (same_Some _ x here)
+    (record { opened = record { here = refl; control = refl; opened = refl }; high = refl; device = refl }, refl)
+
+pub device_then : (x : Endpoint) → slice_get (moment asked_cancelled 100).world.driver.endpoints 0 ≡ Some x
+    → IsOfDevice asked_cancelled 100 0 x
+device_then x here = (known_then x here).0
+
+pub was_cancelled : (x : Endpoint) → slice_get (moment asked_cancelled 100).world.driver.endpoints 0 ≡ Some x → x.cancelled ≡ true
+was_cancelled x here = (known_then x here).1

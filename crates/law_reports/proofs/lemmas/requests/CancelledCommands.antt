@@ -15,7 +15,7 @@ use Rattle.usb_base.specs.declared.reports.What.TheVariants.{Refused}
 use Rattle.bus_wire.specs.Bus.{Fixed}
 use Rattle.bus_wire.specs.Fates.{is_same_name}
 use Rattle.claims_report.specs.Requests.{Request}
-use Rattle.claims_world.specs.Requests.{Windows, windows_of, opens, is_opening, asks_then}
+use Rattle.claims_world.specs.Requests.{before_cancel, Windows, windows_of, opens, is_opening, asks_then}
 use Rattle.drv_table.specs.declared.content.Command.{Command}
 use Rattle.drv_table.specs.declared.content.Endpoint.{Endpoint}
 use Rattle.drv_table.specs.declared.content.Transfer.{Transfer}
@@ -39,7 +39,7 @@ use Rattle.law_reports.proofs.lemmas.pipes.Accepted as news
 use Rattle.law_reports.proofs.lemmas.pipes.Accepted.{IsNewest, EndsThen, ends_then}
 use Rattle.law_reports.specs.requests.Asking.{Sides}
 use Rattle.law_reports.specs.requests.HighAsking.{HasHighAsks}
-use Rattle.law_reports.specs.requests.CancelledTold.{before_cancel, IsToldBefore, CancelledAreTold}
+use Rattle.law_reports.specs.requests.CancelledTold.{IsToldBefore, CancelledAreTold}
 use Rattle.law_reports.specs.requests.CancelledTold.{CommandKeepsCancelled}
 use Rattle.law_reports.proofs.lemmas.requests.lemmas.told_requests.Adding.{descriptors_owned}
 use Rattle.law_reports.proofs.lemmas.requests.lemmas.told_requests.Agreeing.{numbers_none}
@@ -90,7 +90,8 @@ module _ (g : Sides) (fixed : Fixed) (p : Pipes) (v : Windows) (asks : ℕ → R
         as_before (refused_line w.driver line name why) i z control on
         (record {
           lines = ap before_cancel
-              (line_of_other z.desc.name w.driver.reports (record { name = name; what = Refused line why; from = length w.driver.store; len = 0 })
+              (line_of_other z.desc.name w.driver.reports
+              (record { name = name; what = Refused line why; from = length w.driver.store; len = 0 })
               (no_line (is_same_name name z.desc.name)));
           bytes = [];
           store = sym (append-nil w.driver.store);
@@ -131,7 +132,8 @@ module _ (g : Sides) (fixed : Fixed) (p : Pipes) (v : Windows) (asks : ℕ → R
         opens_it : IsNewest o.driver x → (z : Endpoint) → z ≡ x → is_control z.desc.kind ≡ true
             → is_opening (queued o.driver) (queued_endpoint z) ≡ true
         opens_it (news.is_opening queue command made) z is control =
-            subst (λ (u : Endpoint). opens (queued o.driver).command u.queue && not u.gone ≡ true) (sym (of_queue z (ap (λ (u : Endpoint). is_iso u.desc.kind) is ∙ queue)))
+            subst (λ (u : Endpoint). opens (queued o.driver).command u.queue && not u.gone ≡ true)
+            (sym (of_queue z (ap (λ (u : Endpoint). is_iso u.desc.kind) is ∙ queue)))
             (ap (λ (c : Option Command). opens c z.queue && not z.gone) command
             ∙ ap (λ (b : Bool). b && not z.gone) (eq-eqb x.queue z.queue (ap (λ (u : Endpoint). u.queue) (sym is)))
             ∙ ap (λ (u : Endpoint). not u.gone) is ∙ ap not kept)
@@ -191,7 +193,8 @@ module _ (g : Sides) (fixed : Fixed) (p : Pipes) (v : Windows) (asks : ℕ → R
           still i z control on
           (⊎_elim {C = IsAsBefore o.driver i z}
           (λ (own : (i ≡ e) × (z ≡ x)).
-          absurd (control_iso z.desc.kind control (ap (λ (u : Endpoint). is_iso u.desc.kind) own.1 ∙ ap (λ (c : EpDesc). is_iso c.kind) desc ∙ iso)))
+          absurd
+          (control_iso z.desc.kind control (ap (λ (u : Endpoint). is_iso u.desc.kind) own.1 ∙ ap (λ (c : EpDesc). is_iso c.kind) desc ∙ iso)))
           (λ (other : (i ≢ e) × (slice_get w.driver.endpoints i ≡ Some z)).
           record {
             was = z;
@@ -208,7 +211,8 @@ module _ (g : Sides) (fixed : Fixed) (p : Pipes) (v : Windows) (asks : ℕ → R
     opened c (news.one_more x asked ends kept newest tells) same = one_more x ends newest kept same
     opened c (news.one_anew e y x at ends comes kept never tells) same = one_anew e y x at ends comes.desc same
 
-    taken : (name : EpName) (takes : Endpoint → Bool) (a : Asked) → IsTakenOn w.driver w.memory o name takes a → CancelledAreTold g later v now
+    taken : (name : EpName) (takes : Endpoint → Bool) (a : Asked) → IsTakenOn w.driver w.memory o name takes a
+        → CancelledAreTold g later v now
     taken name takes a r =
         let is = ok_is r.is in
         taken_on r.number r.endpoint _ _ r.here (ap (λ (q : Offered). q.driver.endpoints) is) (refl, refl) r.goes_on
@@ -225,7 +229,8 @@ module _ (g : Sides) (fixed : Fixed) (p : Pipes) (v : Windows) (asks : ℕ → R
     by_reason (commands.Put name bytes by) r = taken _ _ _ r
     by_reason (commands.Control name setup bytes) r = taken _ _ _ r
     by_reason (commands.Iso name count len seed) r =
-        described r.number r.endpoint _ r.here (ap (λ (q : Offered). q.driver.endpoints) r.is) refl r.isochronous (replicate r.count r.number)
+        described r.number r.endpoint _ r.here (ap (λ (q : Offered). q.driver.endpoints) r.is) refl r.isochronous
+        (replicate r.count r.number)
         (ap (λ (q : Offered). owners_in q.driver) r.is
         ∙ descriptors_owned r.holding_after.book r.number r.endpoint.desc r.slots r.count r.seed (new_runs w.driver r.holding_after) _)
         (all_alike (λ u. u ≡ r.number) r.count r.number refl)

@@ -12,6 +12,7 @@ use Rattle.bus_wire.specs.Fates.{is_same_name}
 use Rattle.claims_report.specs.Reports.{is_line_of}
 use Rattle.claims_driver.specs.Leaving.{HasOwners}
 use Rattle.claims_world.specs.Pending.{is_cancel}
+use Rattle.claims_world.specs.Requests.{before_cancel}
 use Rattle.drv_periodic_table.specs.declared.content.Removed.TheVariants as removed
 use Rattle.drv_table.specs.declared.content.Endpoint.{Endpoint}
 use Rattle.drv_table.specs.declared.rows.DriverRow.{DriverRow}
@@ -33,7 +34,6 @@ use Rattle.law_queues.proofs.lemmas.leaving_drivers.Telling.{lines_not}
 use Rattle.law_reports.proofs.lemmas.lines.IsoGoing.{AreApart}
 use Rattle.law_reports.proofs.lemmas.lines.Reports.{tells_by}
 use Rattle.law_reports.proofs.lemmas.pipes.GoneLines.{TellsOf, of_none, of_one, harvest_tells_of}
-use Rattle.law_reports.specs.requests.CancelledTold.{before_cancel}
 use Rattle.law_reports.specs.requests.told_requests.Told.{has_cancel}
 
 -- ---- lines of a cancel
@@ -49,7 +49,8 @@ pub all_before : (ls : List Report) → has_cancel ls ≡ false → before_cance
 all_before [] none = refl
 all_before (line ∷ ls) none =
     let both = or_both (is_cancel line.what) (has_cancel ls) none in
-    ap (λ (b : Bool). if not b then line ∷ before_cancel ls else before_cancel ls) both.0 ∙ ap (λ (rest : List Report). line ∷ rest) (all_before ls both.1)
+    ap (λ (b : Bool). if not b then line ∷ before_cancel ls else before_cancel ls) both.0
+    ∙ ap (λ (rest : List Report). line ∷ rest) (all_before ls both.1)
 
 one_by : (name : EpName) (line : Report) (b : Bool) → is_cancel line.what ≡ true → before_cancel (if b then line ∷ [] else []) ≡ []
 one_by name line true is = none_told line is
@@ -96,7 +97,8 @@ module _ (p : Parts) (name : EpName) where
   given f x bytes false is reports store = same_lines p.driver f name reports store
   given f x bytes true is reports store = record {
     lines = ap (λ (rs : List Report). before_cancel (lines_in name rs)) reports
-        ∙ cancel_left name p.driver.reports (record { name = x.desc.name; what = lines.Cancel; from = length p.driver.store; len = length bytes }) refl;
+        ∙ cancel_left name p.driver.reports
+            (record { name = x.desc.name; what = lines.Cancel; from = length p.driver.store; len = length bytes }) refl;
     bytes = bytes;
     store = store;
   }
@@ -126,7 +128,8 @@ module _ (p : Parts) (name : EpName) where
   alike row k = same_lines p.driver (after_driver_row row p).driver name k.reports k.store
 
 -- of endpoint i, which is y, has this name and has ended
-module _ (p : Parts) (i : ℕ) (y : Endpoint) (there : slice_get p.driver.endpoints i ≡ Some y) (over : y.ended ≢ None) (apart : AreApart p.driver) where
+module _ (p : Parts) (i : ℕ) (y : Endpoint) (there : slice_get p.driver.endpoints i ≡ Some y) (over : y.ended ≢ None)
+    (apart : AreApart p.driver) where
   module _ (e t : ℕ) (found : Found) (due : IsHarvestDue p e t found) where
     -- what is harvested goes on
     other : (b : Bool) → is_same_name due.endpoint.desc.name y.desc.name ≡ b → is_same_name due.endpoint.desc.name y.desc.name ≡ false

@@ -15,6 +15,7 @@ use Rattle.claims_report.specs.Controls.{control_of}
 use Rattle.claims_report.specs.Reports.{is_line_of}
 use Rattle.claims_report.specs.Requests.{Request, Window, AreTold}
 use Rattle.claims_world.specs.Pending.{is_cancel}
+use Rattle.claims_world.specs.Requests.{before_cancel}
 use Rattle.claims_world.specs.Requests.{wired, Windows, numbers_of, window_at, windows_of, opens, is_opening, side_of, acted_with}
 use Rattle.claims_world.specs.Requests.{acted_by}
 use Rattle.claims_world.specs.Requests.{after_event, begun_by}
@@ -41,7 +42,7 @@ use Rattle.law_reports.proofs.lemmas.pipes.Across.{row_ends}
 use Rattle.law_reports.specs.requests.Asking.{Sides, has_left, left_with, IsUnheard, IsMetControl}
 use Rattle.law_reports.specs.requests.Footing.{IsFooting}
 use Rattle.law_reports.specs.requests.HighAsking.{told_world, told_standing, told_streams, HasHighAsks}
-use Rattle.law_reports.specs.requests.CancelledTold.{before_cancel, IsToldBefore, CancelledAreTold}
+use Rattle.law_reports.specs.requests.CancelledTold.{IsToldBefore, CancelledAreTold}
 use Rattle.law_reports.specs.requests.CancelledTold.{DriverKeepsCancelled, ControllerKeepsCancelled}
 use Rattle.law_reports.proofs.lemmas.requests.lemmas.told_requests.Growing.{event_keeps_windows}
 use Rattle.law_reports.proofs.lemmas.requests.lemmas.told_requests.Lines.{still_told}
@@ -113,7 +114,8 @@ module _ (g : Sides) (fixed : Fixed) (p : Pipes) (v : Windows) (asks : ℕ → R
     opening_is_told opens =
         let none : lines_in y.desc.name w.driver.reports ≡ [] = h.world.untold y.desc.name (unheard opens) in
         as_real
-        (subst (λ (ls : List Report). AreTold (g.whole y.desc.name) w.driver.store (map (window_at asks v) (numbers_of d e)) (before_cancel ls))
+        (subst
+        (λ (ls : List Report). AreTold (g.whole y.desc.name) w.driver.store (map (window_at asks v) (numbers_of d e)) (before_cancel ls))
         (sym none) tt)
 
     not_opening : is_opening (queued w.driver) (queued_endpoint x) ≡ false → y.gone ≡ false → d.command ≢ Some (unfinished.Open y.queue)
@@ -166,8 +168,8 @@ module _ (g : Sides) (fixed : Fixed) (p : Pipes) (v : Windows) (asks : ℕ → R
 
 -- ---- where lines and windows stay
 
-pub lines_stay : (d f : DriverContent) (asks now : ℕ → Request) (v new : Windows) (whole : EpName → Request → List ℕ) (e : ℕ) (y z : Endpoint)
-    → AreStored d.reports (length d.store) → z.desc ≡ y.desc → windows_of f now new e ≡ windows_of d asks v e
+pub lines_stay : (d f : DriverContent) (asks now : ℕ → Request) (v new : Windows) (whole : EpName → Request → List ℕ) (e : ℕ)
+    (y z : Endpoint) → AreStored d.reports (length d.store) → z.desc ≡ y.desc → windows_of f now new e ≡ windows_of d asks v e
     → LinesStayBefore d f z.desc.name → IsToldBefore d asks v whole e y → IsToldBefore f now new whole e z
 lines_stay d f asks now v new whole e y z stored desc windows k told =
     let n : EpName = z.desc.name in
@@ -266,7 +268,8 @@ module _ (g : Sides) (fixed : Fixed) (p : Pipes) (v : Windows) (asks : ℕ → R
     left : may_meet (queued w.driver) i (queued_endpoint z) ≡ false → IsToldBefore w.driver asks (after_event fixed w v) g.whole i z
     left unmet =
         let gone : has_left g (queued w.driver) i ≡ true =
-        ap (left_with g (queued w.driver) i) told_here ∙ ap (λ (b : Bool). b && not (may_meet (queued w.driver) i u)) still_asked ∙ ap not unmet in
+        ap (left_with g (queued w.driver) i) told_here ∙ ap (λ (b : Bool). b && not (may_meet (queued w.driver) i u)) still_asked
+        ∙ ap not unmet in
         let waits = left_waits fixed p h.standing h.lines h.heads w h.piped (foot g fixed p v asks w h) g h.asking v asks h.head h.suited
         h.world i u gone told_here in
         let none : acted_by fixed w (controller_next fixed w) i ≡ [] = quiet waits in
@@ -283,7 +286,9 @@ module _ (g : Sides) (fixed : Fixed) (p : Pipes) (v : Windows) (asks : ℕ → R
     by_walk false unmet = left unmet
 
   pub controlled : CancelledAreTold g (controller_next fixed w) (after_event fixed w v) asks
-  controlled = record { each = λ i z here control on off. by_walk i z here control on off (may_meet (queued w.driver) i (queued_endpoint z)) refl }
+  controlled = record {
+    each = λ i z here control on off. by_walk i z here control on off (may_meet (queued w.driver) i (queued_endpoint z)) refl;
+  }
 
 pub controller_keeps_cancelled : ControllerKeepsCancelled
 controller_keeps_cancelled g fixed p v asks w h new k = controlled g fixed p v asks w h new k

@@ -27,7 +27,7 @@ use Rattle.drv_table.specs.Words.{is_control, is_high}
 use Rattle.law_driver.specs.endpoint_lives.Lives.{may_meet}
 use Rattle.law_devices.specs.ring_requests.Windows.{Queue, Lines, IsQueue}
 use Rattle.claims_report.specs.Reports.{acted, lines_of}
-use Rattle.claims_report.specs.Requests.{Request, Window, has_acted, AreTold, AreRightRequests}
+use Rattle.claims_report.specs.Requests.{data_of, requests, Request, Window, has_acted, AreTold, AreRightRequests}
 use Rattle.claims_report.specs.ControlSides.{Device}
 use Rattle.claims_report.specs.Controls.{control_of, is_of_hub}
 use Rattle.law_devices.proofs.lemmas.scripted_requests.Finding.{HasControl, control_found}
@@ -39,7 +39,8 @@ use Rattle.law_world.proofs.lemmas.streams.lemmas.taken_reports.Seating.{moment_
 use Rattle.law_queues.proofs.lemmas.leaving_drivers.Unmet.{gone_are_unmet}
 use Rattle.law_world.proofs.lemmas.streams.lemmas.put_laws.Rising.{texts_rise}
 use Rattle.law_queues.proofs.lemmas.told_endpoints.Names.{name_is_same, driver_name}
-use Rattle.claims_world.specs.Requests.{wired, Windows, windows_at, asks_at, numbers_of, window_at, windows_of, AreOnce, opens, is_opening, IsOpenControl, report_at, windows_then, RequestsAreKept, IsOfDevice}
+use Rattle.claims_world.specs.Requests.{wired, Windows, windows_at, asks_at, numbers_of, window_at, windows_of, AreOnce, opens, is_opening, IsOpenControl, report_at, windows_then, before_cancel}
+use Rattle.claims_world.specs.Requests.{RequestsAreKept, IsOfDevice}
 use Rattle.law_reports.proofs.lemmas.requests.lemmas.told_requests.Claims.{report_numbers, report_tells, report_counts}
 use Rattle.law_reports.proofs.lemmas.requests.lemmas.told_requests.Moments.{moments_ask}
 use Rattle.law_reports.specs.requests.Courses.{Asks, IsCourse}
@@ -60,6 +61,8 @@ use Rattle.law_reports.specs.requests.HighGiven.{high_sides_of}
 use Rattle.law_reports.specs.requests.Kept.{TextsKeepRequests}
 use Rattle.law_reports.specs.requests.told_requests.Told.{RequestsAreToldTo}
 use Rattle.law_reports.proofs.lemmas.requests.Footing.{control_zero}
+use Rattle.law_reports.proofs.lemmas.requests.CancelledMoments.{texts_tell_of_cancelled}
+use Rattle.law_reports.proofs.lemmas.requests.CancelledTold.{each_is_told}
 use Rattle.law_reports.proofs.lemmas.requests.HighFooting.{high_footing}
 use Rattle.law_reports.proofs.lemmas.requests.HighMoments.{texts_have_high_asks}
 use Rattle.law_reports.proofs.lemmas.requests.HighOpened.{told_as, opened_told}
@@ -256,6 +259,13 @@ module _ (text : List ℕ) (s : Script) (spelled : Spells text s) where
       (ap (λ (w : Way). is_control (queued_kind w)) way) (ap not k.device))
       (ap not none)
 
+  -- .. but for the line of its cancel
+  told_before : (n e : ℕ) (x : Endpoint) → IsOfDevice s n e x
+      → AreTold (data_of s x.desc.name) (report_at s n).store (windows_then s n e) (before_cancel (lines_of (report_at s n) x.desc.name))
+  told_before n e x k =
+      each_is_told (high_sides_of s) (fixed_of s) (pipes_of s) (windows_at s n) (asks_at s n) (moment s n).world (world_at n) e x
+      k.opened.here k.opened.control (is_asked n e x k) (texts_tell_of_cancelled text s spelled n)
+
   kept_at : (n e : ℕ) (x : Endpoint) → IsOfDevice s n e x → RequestsAreKept s n e x
   kept_at n e x k =
       let g : Sides = high_sides_of s in
@@ -265,15 +275,22 @@ module _ (text : List ℕ) (s : Script) (spelled : Spells text s) where
       record {
         once = all_once g (fixed_of s) (pipes_of s) (windows_at s n) (asks_at s n) w h e x k.opened on;
         told = lines_tell g (fixed_of s) (pipes_of s) (windows_at s n) (asks_at s n) w h e x k.opened on;
+        before = told_before n e x k;
         counted = closing_counts g (fixed_of s) (pipes_of s) (windows_at s n) (asks_at s n) w h e x k.opened on
             (moment_is_seated text s n spelled).apart (windows_few n e x k.opened);
       }
+
+  all_at_the_end : (n e : ℕ) (x : Endpoint) → (moment s n).orders ≡ [] → IsOfDevice s n e x
+      → map (λ u. u.request) (windows_then s n e) ≡ requests s (report_at s n) x.desc.name
+  all_at_the_end n e x over k =
+      report_numbers s n e x (windows_at s n) (texts_rise text s spelled) over k.opened.here k.opened.control
 
   right_at_the_end : (n e : ℕ) (x : Endpoint) → (moment s n).orders ≡ [] → IsOfDevice s n e x → x.cancelled ≡ false
       → AreRightRequests s (report_at s n) x.desc.name (windows_then s n e)
   right_at_the_end n e x over k going =
       let now = kept_at n e x k in
-      record { numbered = report_numbers s n e x (windows_at s n) (texts_rise text s spelled) over k.opened.here k.opened.control; once = now.once; lines_told = now.told going; counted = now.counted }
+      record { numbered = all_at_the_end n e x over k; once = now.once; lines_told = now.told going; counted = now.counted }
 
 pub texts_keep_requests : TextsKeepRequests
-texts_keep_requests text s spelled = record { throughout = kept_at text s spelled; at_the_end = right_at_the_end text s spelled }
+texts_keep_requests text s spelled =
+    record { throughout = kept_at text s spelled; all = all_at_the_end text s spelled; at_the_end = right_at_the_end text s spelled }
