@@ -2,16 +2,12 @@ pub mod Streaming
 pub mod Outs
 pub mod Joining
 pub mod Spared
-pub mod Stores
-pub mod Lends
 pub mod Opens
 pub mod Harvests
 pub mod Returns
-pub mod Events
 pub mod Takers
 pub mod RowSamples
 pub mod worlds_in_place
-pub mod world_out_streams
 pub mod unlinked_streams
 pub mod closed_streams
 pub mod endpoint_releases

@@ -9,10 +9,7 @@ pub mod left_puts
 pub mod Feeding
 pub mod Taking
 pub mod FeedingLaws
-pub mod OpenFeeds
-pub mod LendFeeds
 pub mod HarvestFeeds
-pub mod FeedingSamples
 pub mod Tails
 pub mod Cancelling
 pub mod Clearing
@@ -23,9 +20,7 @@ pub mod Mends
 pub mod Releases
 pub mod Left
 pub mod LeftLaws
-pub mod TakingLaws
 pub mod Whole
 pub mod Laws
-pub mod Moments
 pub mod sending_worlds
 pub mod Asynchronous

@@ -38,7 +38,5 @@ pub mod row_worked;
 mod stream_laws;
 pub mod unlinked_streams;
 pub mod world_bytes;
-pub mod world_out_streams;
-pub mod worlds_in_place;
 
 pub use stream_laws::{the_controller_leaves_the_streams, what_is_reported_begins_the_stream};

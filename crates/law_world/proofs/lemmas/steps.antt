@@ -2,11 +2,7 @@ pub mod lemmas
 pub mod StreamTurning
 pub mod Joining
 pub mod Spared
-pub mod Storing
-pub mod Lending
 pub mod Opening
-pub mod Harvesting
 pub mod Returning
-pub mod RowTurning
 pub mod Beginning
 pub mod RowSampling

@@ -2,4 +2,3 @@ pub mod Closed
 pub mod Several
 pub mod Aside
 pub mod Left
-pub mod Samples

@@ -4,5 +4,4 @@
 //!
 //! The module has no code of its own: each function is a law over the definitions of `law_ring`, `controlled_streams` and `law_world_steps`, and its body is empty.
 
-pub mod laws;
 pub mod worked;

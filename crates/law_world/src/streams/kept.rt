@@ -1,11 +1,6 @@
 //! The laws of new worlds, of commands, and of the rows of the driver by which no endpoint leaves and none is given back.
-ghost use Rattle.law_world.specs.streams.LeftLaws.{NewWorldLeft, CommandKeepsLeft};
+ghost use Rattle.law_world.specs.streams.LeftLaws.{CommandKeepsLeft};
 ghost use Rattle.law_world.specs.streams.LeftLaws.{RowKeepsLeft};
-
-/// No endpoint has left a new world: there is none.
-pub fn new_world_left()
-    ensures { NewWorldLeft }
-{}
 
 /// A command, accepted or refused, leaves what is known of the endpoints that have left.
 pub fn command_keeps_left()

@@ -1,16 +1,10 @@
 //! The laws.
 ghost use Rattle.law_world.specs.streams.Beside.{LeaveKeepsTails, CancelKeepsTold, ClearKeepsTold};
 ghost use Rattle.law_world.specs.streams.Cancelling.{CancelFeeds};
-ghost use Rattle.law_world.specs.streams.Clearing.{ClearFeeds};
 
 /// A cancel, accepted or refused, leaves each queue fed, with the same queue heads that the walk may meet, the same streams and the same bytes.
 pub fn cancel_feeds()
     ensures { CancelFeeds }
-{}
-
-/// Where the driver clears Async Advance, the queues that the walk may still meet are fed as before, and the streams of the others are closed.
-pub fn clear_feeds()
-    ensures { ClearFeeds }
 {}
 
 /// Both leave each queue that the walk may meet with its front and its tail, and what is told of it.

@@ -3,5 +3,4 @@
 //!
 //! The module has no code of its own: each function is a law over the definitions of `endpoint_lives`, `fed_queues` and `closed_streams`, and its body is empty.
 
-pub mod laws;
 pub mod worked;

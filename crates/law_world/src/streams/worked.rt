@@ -1,17 +1,12 @@
 //! Worked rows, which the check computes.
 ghost use Rattle.std.specs.Prelude.{[], ◌≡◌, Some, true, false, ◌∷◌};
 ghost use Rattle.law_queues.specs.standing_fronts.Tails.{tail_block};
-ghost use Rattle.usb_base.specs.declared.reports.What.TheVariants as lines;
 ghost use Rattle.drv_table.specs.declared.rows.DriverRow.TheVariants as rows;
-ghost use Rattle.drv_table.specs.declared.rows.Found.TheVariants as founds;
 ghost use Rattle.drv_table.specs.Leaving.{leaving_row};
 ghost use Rattle.op_registers.specs.RegisterFile.{RegisterFile};
 ghost use Rattle.law_driver_ring.specs.Released.{goes_of};
 ghost use Rattle.claims_driver.specs.Leaving.{owes};
 ghost use Rattle.law_driver.specs.run_owners.Worked.{busy_driver, get_out};
-ghost use Rattle.law_devices.specs.opening_senders.Own.{HasOwnDevices};
-ghost use Rattle.law_world.specs.streams.Moments.{IsAsynchronousScript};
-ghost use Rattle.law_world.specs.streams.FeedingSamples.{one_get};
 
 /// A get with its qTD in block 132 and its buffer in block 134 is reported, and given back: both go, and the tail in block 133 stays.
 pub fn a_get_is_given_back()
@@ -21,10 +16,4 @@ pub fn a_get_is_given_back()
     ensures buffer { goes_of busy_driver get_out 4288 ≡ true }
     ensures stays { goes_of busy_driver get_out 4256 ≡ false }
     ensures tail { tail_block busy_driver.command (Some get_out) 0 133 ≡ 133 }
-{}
-
-/// The script fits, says bytes, and has a sender for the endpoint that it opens, which is a bulk one and whose name and numbers fit.
-pub fn a_script_with_one_get()
-    ensures asynchronous { IsAsynchronousScript one_get }
-    ensures own { HasOwnDevices one_get }
 {}

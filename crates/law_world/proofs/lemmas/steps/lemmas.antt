@@ -1,8 +1,6 @@
 pub mod worlds_in_place
 pub mod world_bytes
-pub mod world_out_streams
 pub mod unlinked_streams
-pub mod closed_streams
 pub mod endpoint_releases
 pub mod left_queues
 pub mod controlled_walks

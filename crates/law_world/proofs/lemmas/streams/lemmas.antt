@@ -1,8 +1,5 @@
 pub mod right_reports
-pub mod right_worlds
-pub mod narrowed_streams
 pub mod left_reports
-pub mod shared_worlds
 pub mod taken_reports
 pub mod put_laws
 pub mod left_puts

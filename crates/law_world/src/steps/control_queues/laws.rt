@@ -1,7 +1,10 @@
 //! What stands of control queues is left by everything that happens.
-ghost use Rattle.law_world.specs.steps.control_queues.Beside.{NewDriverControls, ControllerKeepsControls, SameKeepControls, CommandsKeepControls, SilentKeepsControls};
+ghost use Rattle.law_world.specs.steps.control_queues.Beside.{NewDriverControls, ControllerKeepsControls, SameKeepControls};
+ghost use Rattle.law_world.specs.steps.control_queues.Beside.{CommandsKeepControls, SilentKeepsControls};
 ghost use Rattle.law_world.specs.steps.control_queues.Queues.{LendKeepsQueues, OpenLendIsWhole, OpenIsWhole, LinkKeepsControls};
-ghost use Rattle.law_world.specs.steps.control_queues.Rows.{LendKeepsControls, StoreKeepsControls, OpenLendKeepsControls, OpenLinkKeepsControls, HarvestKeepsControls, ReleaseKeepsControls, MendKeepsControls, UnlinkKeepsControls, LeaverKeepsControls};
+ghost use Rattle.law_world.specs.steps.control_queues.Rows.{LendKeepsControls, StoreKeepsControls, OpenLendKeepsControls};
+ghost use Rattle.law_world.specs.steps.control_queues.Rows.{OpenLinkKeepsControls, ReleaseKeepsControls, UnlinkKeepsControls};
+ghost use Rattle.law_world.specs.steps.control_queues.Rows.{LeaverKeepsControls};
 
 use usb_base::Wire;
 
@@ -32,12 +35,6 @@ pub fn a_lend_leaves_control_queues()
 pub fn an_open_leaves_control_queues()
     ensures lend { OpenLendKeepsControls }
     ensures link { OpenLinkKeepsControls }
-{}
-
-/// A harvest leaves it, where a control endpoint answered STALL too; then the three stores that its queue head is owed leave it.
-pub fn a_stall_leaves_control_queues()
-    ensures harvest { HarvestKeepsControls }
-    ensures mend { MendKeepsControls }
 {}
 
 /// So does the row that gives back what was harvested, and those by which an endpoint leaves.

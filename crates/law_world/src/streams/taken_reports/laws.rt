@@ -1,7 +1,7 @@
 //! The laws.
 ghost use Rattle.law_world.specs.streams.taken_reports.Laws.{ClosingTellsTaker, ReportIsTaken};
-ghost use Rattle.law_world.specs.streams.taken_reports.Turns.{TextIsSeated, MicroframeKeepsAddresses, TransactionKeepsAddresses, EventKeepsSeats, CommandKeepsSeats, RunKeepsSeats, MomentIsSeated};
-ghost use Rattle.law_world.specs.streams.taken_reports.Worlds.{WorldIsTaken};
+ghost use Rattle.law_world.specs.streams.taken_reports.Turns.{TextIsSeated, MicroframeKeepsAddresses, TransactionKeepsAddresses};
+ghost use Rattle.law_world.specs.streams.taken_reports.Turns.{EventKeepsSeats, CommandKeepsSeats, RunKeepsSeats, MomentIsSeated};
 
 /// What a closing line says that a device took is what the taker of its endpoint took.
 pub fn closing_tells_taker()
@@ -11,11 +11,6 @@ pub fn closing_tells_taker()
 /// Where its lines, and what is held back behind them, begin what the taker of each OUT endpoint took, they begin what its closing lines tell.
 pub fn report_is_taken()
     ensures { ReportIsTaken }
-{}
-
-/// So it is in a world whose OUT pipes agree, and where what is told of each queue that has a stream is what was harvested of it.
-pub fn world_is_taken()
-    ensures { WorldIsTaken }
 {}
 
 /// Each IN and OUT endpoint that a text opens has its seat, and no two of its devices have one address.

@@ -8,6 +8,5 @@ pub mod OpenLends
 pub mod Stores
 pub mod Lends
 pub mod Returns
-pub mod Harvests
 pub mod Sampled
 pub mod SampledWaiting

@@ -1,4 +1,0 @@
-pub mod Names
-pub mod Narrowing
-pub mod Clearing
-pub mod Sampling

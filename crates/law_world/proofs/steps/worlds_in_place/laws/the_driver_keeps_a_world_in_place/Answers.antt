@@ -1,5 +1,0 @@
-use Rattle.law_world.proofs.lemmas.steps.lemmas.worlds_in_place.Worlds.{the_driver_keeps_a_world_in_place}
-use Rattle.law_world.proofs.steps.worlds_in_place.laws.the_driver_keeps_a_world_in_place.Goals as goal
-
-pub returns : goal.returns
-returns c = the_driver_keeps_a_world_in_place
