@@ -13,9 +13,6 @@ pub mod Lent
 pub mod Harvests
 pub mod TransferSamples
 pub mod Telling
-pub mod ReportAsking
-pub mod Right
-pub mod Accepted
 pub mod ReportSamples
 pub mod Footing
 pub mod Asking

@@ -2,6 +2,7 @@
 //! it.
 //!
 //! - `asked_worked`: A worked request along its run, from its open to its act and to the line that tells it done (EHCI 1.0, 4.8 and 4.10; USB 2.0, 8.5.3).
+//! - `cancelled`: What the lines of a control endpoint that was cancelled tell, but for the one of its cancel (EHCI 1.0, 4.8.2; USB 2.0, 8.5.3).
 //! - `driver_requests`: The control requests of a driver's endpoints are those of the ring's queue heads (EHCI 1.0, 3.5, 3.6 and 4.10; USB 2.0, 8.5.3): each is
 //!   a transfer, and is found by the place of its SETUP.
 //! - `high`: Worlds with endpoints of every kind: the requests of control endpoints at high speed (EHCI 1.0, 4.8 and 4.10; USB 2.0, 5.5
@@ -10,8 +11,7 @@
 //!   published, one after the other, or is at rest, also halted until it is mended. So it is after each event of the controller, after each store, lend and
 //!   return of a driver beside the requests, after a request was published, is done or was halted, and where an endpoint comes or goes.
 //! - `report_laws`, `report_worked`: What the lines of a report tell of these requests along its run (EHCI 1.0, 4.8 to 4.10): of each that is reported its
-//!   window, in their order. And all that holds of them at one moment (`IsAsking`): where their queues stand, what is recorded of them, what the lines tell, and
-//!   how often the devices acted.
+//!   window, in their order.
 //! - `request_bytes`: The bytes of a control transfer's SETUP and of its data OUT in the buffers that the driver took for them (EHCI 1.0, 3.5.4 and 4.10; USB
 //!   2.0, 9.3): they stand there once the request was accepted, and stay until the buffers are lent; then its qTDs are as a new request's must be.
 //! - `told_requests`: What the report of a world tells of control requests (EHCI 1.0, 4.10; USB 2.0, 8.5.3): each line of a control endpoint tells of one

@@ -24,9 +24,6 @@ pub mod Lent
 pub mod TransferHarvests
 pub mod TransferSampled
 pub mod Telling
-pub mod Asking
-pub mod Right
-pub mod Accepted
 pub mod ReportSampled
 pub mod Footing
 pub mod Relinking

@@ -2,14 +2,10 @@
 ghost use Rattle.std.specs.Prelude.{◌≡◌, [], ◌∷◌};
 ghost use Rattle.law_request.specs.Samples.{descriptor};
 ghost use Rattle.law_devices.specs.ring_requests.Samples.{asked};
-ghost use Rattle.law_devices.specs.request_stores.Published.{without_first};
 ghost use Rattle.claims_world.specs.Requests.{no_windows};
 ghost use Rattle.law_reports.specs.requests.driver_requests.Samples.{driver, requests, begun};
-ghost use Rattle.law_reports.specs.requests.QueueChanges.{lines_behind};
-ghost use Rattle.law_reports.specs.requests.Courses.{Asks};
-ghost use Rattle.law_reports.specs.requests.TransferSamples.{both, one, first_acted as FirstActed, then_next as ThenNext};
+ghost use Rattle.law_reports.specs.requests.TransferSamples.{both, first_acted as FirstActed};
 ghost use Rattle.law_reports.specs.requests.Telling.{IsTelling};
-ghost use Rattle.law_reports.specs.requests.ReportAsking.{IsTold};
 ghost use Rattle.law_reports.specs.requests.ReportSamples.{name, whole, told, stalled};
 
 /// Two requests wait before the first is begun. The line of the first tells of its window, in which the device acted once, and of the whole descriptor; then the second
@@ -19,10 +15,4 @@ pub fn lines_tell_of_two_requests()
     ensures first { IsTelling told asked 0 name whole FirstActed (0 ∷ []) (1 ∷ []) }
     ensures both { IsTelling stalled asked 0 name whole FirstActed (0 ∷ 1 ∷ []) [] }
     ensures bytes { whole (asked 0) ≡ descriptor }
-{}
-
-/// So it is told what the queue asks: both requests, and once the first is closed the second.
-pub fn what_is_asked_is_told()
-    ensures both { IsTold driver asked (λ name. whole) (Asks requests 4416 begun) both no_windows }
-    ensures one { IsTold told asked (λ name. whole) (Asks (without_first requests) 4416 (lines_behind requests ThenNext)) one FirstActed }
 {}
