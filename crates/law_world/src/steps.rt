@@ -21,10 +21,6 @@
 //!   past it, and the walk, which may still meet it, finds all queues as they were.
 //! - `world_bytes`: What a world hears is bytes (USB 2.0, 8.3.4): at each moment of the run of each script that a text spells, whatever the controller would
 //!   ask its bus now, each number in the data that it hears is below 256.
-//! - `world_out_streams`: The streams of the OUT endpoints of a world, beside those of its IN endpoints (EHCI 1.0, 4.6, 4.8 and 4.10; USB 2.0, 8.6): each event
-//!   of the controller leaves both sides of each pipe agreed, either way.
-//! - `worlds_in_place`: Nothing of a world's driver is out of place (EHCI 1.0, 3, 4.6 and 4.8): not in a new world, nor after a command, accepted or refused,
-//!   nor after an event of the driver.
 //!
 //! The module has no code of its own: each function is a law, and its body is empty.
 

@@ -6,29 +6,22 @@
 //!   and of the controller leaves them so.
 //! - `leave_laws`, `leave_worked`: Such worlds while endpoints leave the ring (EHCI 1.0, 4.8.2): a cancel leaves each queue fed, and the bytes of its qTDs add
 //!   up still.
-//! - `left_events`, `kept`, `taking`: Such worlds of which some endpoints have left the ring, or were given back (EHCI 1.0, 4.8.2 and 4.10; USB 2.0, 5.8 and 8.6):
-//!   what was moved and told of bulk ones of these begins their packets, or what their devices took, along everything that happens; and both sides of the pipes
-//!   of OUT endpoints agree while endpoints leave.
+//! - `kept`: Such worlds of which some endpoints have left the ring, or were given back (EHCI 1.0, 4.8.2 and 4.10; USB 2.0, 5.8 and 8.6): what was moved and told
+//!   of bulk ones of these begins their packets, or what their devices took.
 //! - `left_puts`: What is told of puts while an endpoint leaves the ring, and once it was given back (EHCI 1.0, 4.8.2 and 4.10): the buffers of puts hold their
 //!   bytes, what was reported and what is still to be sent are the puts, what is out is sent whole, and what was taken begins the puts.
 //! - `left_reports`: What a driver's report tells of an endpoint that leaves the ring (EHCI 1.0, 4.8.2 and 4.10; USB 2.0, 8.6): until it is given back what was
 //!   told stands, and then its last line tells all that was moved of it.
-//! - `mend_laws`: Such a world in which a control endpoint answered STALL (EHCI 1.0, 3.6.3 and 4.10.3; USB 2.0, 8.5.3.4): each of the stores that it is owed
-//!   is of its queue head, and leaves the queues fed and what is told of each stream.
 //! - `narrowed_streams`: Of a driver of bulk and control endpoints several have left the ring, and the doorbell is answered (EHCI 1.0, 4.8.2): the walk doesn't
 //!   meet their queue heads any more, and just their streams are closed, IN and OUT. No other endpoint has the name of one of them.
 //! - `put_laws`: Puts (EHCI 1.0, 3.5 and 4.10; USB 2.0, 5.8 and 8.6): their bytes in buffers, what is sent of them, what devices took, and what is still to be
 //!   sent.
 //! - `right_reports`: The report of a world of bulk and control endpoints (USB 2.0, 8.6): where what is told of each IN endpoint begins the packets that the
 //!   script has for it, its IN streams are right.
-//! - `right_worlds`: A world whose endpoints are bulk and control ones (EHCI 1.0, 4.10; USB 2.0, 8.6): where its pipes agree and what is told of each queue
-//!   that has a stream is what was harvested of it, the IN streams of its report are right.
 //! - `sending_worlds`: Worlds with OUT endpoints (EHCI 1.0, 4.8 and 4.10; USB 2.0, 5.8 and 8.6): what their report tells of puts, and what their devices took.
-//! - `shared_worlds`: A world at work (EHCI 1.0, 4.6, 4.8 and 4.10; USB 2.0, 8.6): each event of the controller leaves everything of the driver in place,
-//!   memory told by exactly the structures that the driver has lent, and the streams of the IN endpoints right, all together.
 //! - `taken_reports`: What the report of a world tells of OUT endpoints (USB 2.0, 8.5 and 8.6): data that were acknowledged have arrived, so the bytes that are
 //!   told of an endpoint begin those that its device took, which a closing line of the report tells.
-//! - `unlink_laws`, `unlink_worked`: Such a world from which an endpoint leaves (EHCI 1.0, 4.8.2 and 4.10; USB 2.0, 5.8 and 8.6): one store takes its queue
+//! - `unlink_worked`: Such a world from which an endpoint leaves (EHCI 1.0, 4.8.2 and 4.10; USB 2.0, 5.8 and 8.6): one store takes its queue
 //!   head out of the ring, and in the end its blocks are given back; each other queue is fed as before.
 //!
 //! The module has no code of its own: each function is a law, and its body is empty.
