@@ -325,6 +325,7 @@ after_declared w n (says.Stuff name p) new h =
     (λ _. where_declared w name _ h (changed_declared w name (stuffed p) _ (λ e. refl) refl refl refl refl h)) (λ _. h)
 after_declared w n (says.Open name) new h = opened_declared w n (known w name) (known_is w name) h
 after_declared w n (says.Cancel name) new h = where_declared w name _ h (commanded_declared w n (cmd.Cancel (name_of name)) tt h)
+after_declared w n (says.Clear name) new h = where_declared w name _ h (commanded_declared w n (cmd.Clear (name_of name)) tt h)
 after_declared w n (says.Get l) new h =
     where_declared w l.name _ h (commanded_declared (record w { asked = counted w.asked l.len }) n (cmd.Get (name_of l.name) l.len (by_of l.by)) tt (same_declared w _ refl refl refl refl h))
 after_declared w n (says.Put l) new h =

@@ -152,6 +152,7 @@ after_numbers w n (says.Stuff name p) h =
     (λ _. h)
 after_numbers w n (says.Open name) h = opened_numbers w n (known w name) (known_numbers w name h) h
 after_numbers w n (says.Cancel name) h = where_numbers w name _ h (commanded_numbers w n (cmd.Cancel (name_of name)) tt h)
+after_numbers w n (says.Clear name) h = where_numbers w name _ h (commanded_numbers w n (cmd.Clear (name_of name)) tt h)
 after_numbers w n (says.Get l) h =
     where_numbers w l.name _ h (commanded_numbers (record w { asked = counted w.asked l.len }) n _ tt (record { hubs = h.hubs; devices = h.devices; lines = h.lines }))
 after_numbers w n (says.Put l) h =

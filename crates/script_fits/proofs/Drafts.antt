@@ -353,6 +353,7 @@ after_fits w n (says.Stuff name p) t said h =
 after_fits w n (says.Hold first last) t said h = record { words = h.words; hubs = h.hubs; devices = h.devices; lines = h.lines }
 after_fits w n (says.Open name) t said h = opened_fits w n (known w name) (known_fits w name h) h
 after_fits w n (says.Cancel name) t said h = where_fits w name _ h (commanded_fits w n (commands.Cancel (name_of name)) tt h)
+after_fits w n (says.Clear name) t said h = where_fits w name _ h (commanded_fits w n (commands.Clear (name_of name)) tt h)
 after_fits w n (says.Get l) t said h =
     where_fits w l.name _ h (commanded_fits (record w { asked = counted w.asked l.len }) n _ (piece l.by said) (record { words = h.words; hubs = h.hubs; devices = h.devices; lines = h.lines }))
 after_fits w n (says.Put l) t said h =

@@ -27,6 +27,7 @@ IsSaid (says.Stuff name p) = Unit {0}
 IsSaid (says.Hold first last) = Unit {0}
 IsSaid (says.Open name) = Unit {0}
 IsSaid (says.Cancel name) = Unit {0}
+IsSaid (says.Clear name) = Unit {0}
 IsSaid (says.Get l) = IsPieceIf l.by
 IsSaid (says.Put l) = IsPieceIf l.by
 IsSaid (says.Control c) = Unit {0}

@@ -63,8 +63,8 @@ first_of w = find (λ f. bytes_eq w (first_text f)) first_words
 abbrev pub is_built : ℕ → FirstWord → Bool
 is_built version F.Frames = false
 is_built version F.Stuff = version == 2
-is_built version F.Epoch = false
-is_built version F.Clear = false
+is_built version F.Epoch = version == 2
+is_built version F.Clear = version == 2
 is_built version F.Park = false
 is_built version F.Root = false
 is_built version F.Classic = false

@@ -100,5 +100,7 @@ statement_of form.IsoOut ws = says.Iso (record { name = named ws; count = number
 statement_of form.OrderD ws = says.Order event.D (number_at 1 ws)
 statement_of form.OrderC ws = says.Order event.C (number_at 1 ws)
 statement_of form.OrderM ws = says.Micro (number_at 1 ws)
+statement_of form.Epoch ws = says.Reply (named ws) answer.Epoch
+statement_of form.Clear ws = says.Clear (named ws)
 statement_of form.Stuff ws = says.Stuff (named ws) (number_at 3 ws)
 statement_of _ ws = says.Unbuilt

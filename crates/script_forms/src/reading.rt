@@ -283,6 +283,8 @@ pub fn statement(alloc: Global, form: Form, words: &[Word]) -> Result<Statement,
         Form::OrderD => Ok(Statement::Order(Event::D, number_at(1, words))),
         Form::OrderC => Ok(Statement::Order(Event::C, number_at(1, words))),
         Form::OrderM => Ok(Statement::Micro(number_at(1, words))),
+        Form::Epoch => Ok(Statement::Reply(named(words), Answer::Epoch)),
+        Form::Clear => Ok(Statement::Clear(named(words))),
         Form::Stuff => Ok(Statement::Stuff(named(words), number_at(3, words))),
         _ => Ok(Statement::Unbuilt),
     }

@@ -32,6 +32,8 @@ pub enum Answer {
     Nyet,
     /// STALL from here on (USB 2.0, 8.4.5).
     Stall,
+    /// What stands behind it comes once the endpoint is reset (USB 2.0, 9.4.5).
+    Epoch,
     /// The reply to a request with these setup bytes (USB 2.0, 9.3).
     Request { setup: [u8; 8], bytes: ListOf<u8> },
 }
@@ -117,6 +119,8 @@ pub enum Statement {
     Hold(u32, u32),
     Open(Name),
     Cancel(Name),
+    /// The halt of an endpoint is cleared (USB 2.0, 9.4.5).
+    Clear(Name),
     Get(GetLine),
     Put(PutLine),
     Control(ControlLine),

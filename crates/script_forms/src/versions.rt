@@ -13,8 +13,8 @@ fn is_built(version: u8, first: FirstWord) -> bool
     match first {
         FirstWord::Frames => false,
         FirstWord::Stuff => version == 2,
-        FirstWord::Epoch => false,
-        FirstWord::Clear => false,
+        FirstWord::Epoch => version == 2,
+        FirstWord::Clear => version == 2,
         FirstWord::Park => false,
         FirstWord::Root => false,
         FirstWord::Classic => false,

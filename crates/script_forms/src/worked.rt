@@ -5,9 +5,10 @@ ghost use Rattle.script_forms.specs.Syntax.{number_of, hex_of};
 ghost use Rattle.script_forms.specs.Table.{first_in};
 ghost use Rattle.script_forms.specs.Fitting.{form_of};
 ghost use Rattle.script_forms.specs.Values.{statement_of};
+ghost use Rattle.usb_base.specs.declared.packets.Way.TheVariants.{In};
 
 use crate::causes::TextWhy;
-use crate::statements::Statement;
+use crate::statements::{Answer, Statement};
 use crate::table::{FirstWord, Form};
 
 /// A word spells a number exactly where it is the number's decimal digits, and the number has 32 bits.
@@ -62,16 +63,24 @@ pub fn forms_of_words()
 pub fn versions()
     ensures first { first_in 1 (codes "mem") ≡ Some FirstWord.Mem }
     ensures second { first_in 2 (codes "mem") ≡ Some FirstWord.Mem }
-    ensures later { first_in 2 (codes "clear") ≡ None }
-    ensures never { first_in 1 (codes "clear") ≡ None }
+    ensures later { first_in 2 (codes "park") ≡ None }
+    ensures never { first_in 1 (codes "park") ≡ None }
     ensures unknown { first_in 2 (codes "device") ≡ None }
     ensures built { first_in 2 (codes "stuff") ≡ Some FirstWord.Stuff }
     ensures not_yet { first_in 1 (codes "stuff") ≡ None }
+    ensures clear { first_in 2 (codes "clear") ≡ Some FirstWord.Clear }
+    ensures no_clear { first_in 1 (codes "clear") ≡ None }
+    ensures epoch { first_in 2 (codes "epoch") ≡ Some FirstWord.Epoch }
+    ensures no_epoch { first_in 1 (codes "epoch") ≡ None }
 {}
 
 /// What words say.
 pub fn statements()
     ensures micro { statement_of Form.OrderM (codes "m" ∷ codes "20" ∷ []) ≡ Statement.Micro 20 }
     ensures hold { statement_of Form.Hold (codes "2" ∷ codes "7" ∷ []) ≡ Statement.Hold 2 7 }
+    ensures epoch { statement_of Form.Epoch (codes "3" ∷ codes "1" ∷ codes "in" ∷ [])
+        ≡ Statement.Reply (record { addr = 3; num = 1; way = In }) Answer.Epoch }
+    ensures clear { statement_of Form.Clear (codes "3" ∷ codes "1" ∷ codes "in" ∷ [])
+        ≡ Statement.Clear (record { addr = 3; num = 1; way = In }) }
     ensures multi { statement_of Form.HubMulti (codes "9" ∷ codes "4" ∷ codes "multi" ∷ []) ≡ Statement.Hub 9 4 true }
 {}

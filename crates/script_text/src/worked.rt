@@ -28,7 +28,7 @@ pub const VERSION: &[u8] = b"ehci 3\n";
 
 pub const WORD: &[u8] = b"ehci 1\n\n# a device\ndevice 3 high\n";
 
-pub const UNBUILT: &[u8] = b"ehci 2\nclear 3 1 in\n";
+pub const UNBUILT: &[u8] = b"ehci 2\npark 2\n";
 
 pub const BEFORE: &[u8] = b"ehci 1\nstuff 3 1 in 6\n";
 

@@ -1,5 +1,5 @@
 -- A script as far as it is read: what is declared, the actions so far, and what counts toward the limits.
-use Rattle.std.specs.Prelude.{ℕ, ◌+◌, ◌/◌, ◌%◌, Bool, false, ◌==◌, ◌&&◌, nat_le, if◌then◌else◌, List, [], ◌∷◌, length, map, Option, None, unwrap_or}
+use Rattle.std.specs.Prelude.{ℕ, ◌+◌, ◌/◌, ◌%◌, Bool, true, false, count_by, ◌==◌, ◌&&◌, nat_le, if◌then◌else◌, List, [], ◌∷◌, length, map, Option, None, unwrap_or}
 use Rattle.std.specs.List.{find, range_with_len}
 use Rattle.std.specs.Option.{option_map, option_and_then, option_or}
 use Rattle.std.specs.Simd.{first_chunks}
@@ -98,6 +98,19 @@ ep_of es name = option_map (λ e. e.desc) (find (is_named name) es)
 -- a declared endpoint of a declared device
 abbrev pub device_ep : Draft → Name → Option EpDesc
 device_ep w name = option_and_then (λ d. ep_of d.eps name) (device_of w.devices name.addr)
+
+-- the endpoint of a declared device as it is told so far
+abbrev pub ep_text : Draft → Name → Option EpText
+ep_text w name = option_and_then (λ d. find (is_named name) d.eps) (device_of w.devices name.addr)
+
+-- what stands behind it comes in the endpoint's next epoch
+abbrev pub is_epoch : Item → Bool
+is_epoch item.Epoch = true
+is_epoch _ = false
+
+-- how many epochs an endpoint has behind its first
+abbrev pub epochs_after : EpText → ℕ
+epochs_after e = count_by is_epoch e.items
 
 -- the control endpoint 0 that each hub has, of 64 bytes (USB 2.0, 11.12.1)
 abbrev pub hub_desc : ℕ → EpDesc

@@ -89,6 +89,7 @@ can_answer w (answer.Nak k) kind max = not (is_iso kind)
 can_answer w answer.Nyet kind max = same_way w way.Out && is_stream kind
 can_answer w answer.Stall kind max = is_stream kind
 can_answer w (answer.Request setup bytes) kind max = same_way w way.Ctl
+can_answer w answer.Epoch kind max = is_stream kind
 
 -- the kinds that an endpoint of a way can have
 abbrev pub kinds_of : Way → List EpKind

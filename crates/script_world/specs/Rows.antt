@@ -34,7 +34,7 @@ use Rattle.script_forms.specs.declared.statements.Answer.{Answer}
 use Rattle.script_forms.specs.declared.statements.Answer.TheVariants as answer
 use Rattle.script_forms.specs.declared.statements.Statement.{Statement}
 use Rattle.script_forms.specs.declared.statements.Statement.TheVariants as says
-use Rattle.script_world.specs.Draft.{Draft, Placed, same_way, is_named, speed_of, device_of, hub_of, device_ep, known, change, filled, packets}
+use Rattle.script_world.specs.Draft.{Draft, Placed, same_way, is_named, speed_of, device_of, hub_of, ep_text, epochs_after, device_ep, known, change, filled, packets}
 use Rattle.script_world.specs.Ranges.{in_range, is_endpoint, is_slots, within}
 
 -- the endpoint of a request to a device
@@ -50,6 +50,7 @@ is_known w (says.Fate f) = is_some (known w f.name)
 is_known w (says.Stuff name p) = is_some (known w name)
 is_known w (says.Open name) = is_some (known w name)
 is_known w (says.Cancel name) = is_some (known w name)
+is_known w (says.Clear name) = is_some (known w name)
 is_known w (says.Get l) = is_some (known w l.name)
 is_known w (says.Put l) = is_some (known w l.name)
 is_known w (says.Control c) = is_some (known w (control_name c.addr))
@@ -109,6 +110,11 @@ may_command w = nat_lt w.commands 4096
 abbrev pub may_script : Draft → ℕ → Bool
 may_script w n = nat_le (w.scripted + n) 4194304
 
+-- an endpoint has at most 16 epochs behind its first
+abbrev pub may_begin : Draft → Name → Answer → Bool
+may_begin w name answer.Epoch = option_map_or (λ e. nat_lt (epochs_after e) 16) (ep_text w name) true
+may_begin w name _ = true
+
 -- the limits of a whole script leave room for the line
 abbrev pub has_room : Draft → Statement → Bool
 has_room w (says.Mem n) = true
@@ -116,12 +122,13 @@ has_room w (says.Hub addr ports multi) = nat_lt (length w.hubs) 8
 has_room w (says.DevHigh addr) = nat_lt (length w.devices) 127
 has_room w (says.DevBelow b) = nat_lt (length w.devices) 127
 has_room w (says.Ep l) = nat_lt (length w.endpoints) 256
-has_room w (says.Reply name a) = may_script w (answer_len a)
+has_room w (says.Reply name a) = may_begin w name a && may_script w (answer_len a)
 has_room w (says.Fate f) = nat_lt (length w.fates) 4096
 has_room w (says.Stuff name p) = true
 has_room w (says.Hold first last) = nat_lt (length w.holds) 256
 has_room w (says.Open name) = may_command w
 has_room w (says.Cancel name) = may_command w
+has_room w (says.Clear name) = may_command w
 has_room w (says.Get l) = may_command w && nat_le (w.asked + l.len) 4194304
 has_room w (says.Put l) = may_command w && may_script w (content_len l.content)
 has_room w (says.Control c) = may_command w && may_script w (bytes_len c.bytes)
@@ -148,6 +155,7 @@ is_world F.Reply = true
 is_world F.Fate = true
 is_world F.Hold = true
 is_world F.Stuff = true
+is_world F.Epoch = true
 is_world _ = false
 
 -- the line comes too late: the world after an action, the memory after anything of the world
@@ -163,6 +171,7 @@ items_of max (answer.Nak k) = item.Nak k ∷ []
 items_of max answer.Nyet = item.Nyet ∷ []
 items_of max answer.Stall = item.Stall ∷ []
 items_of max (answer.Request setup bytes) = item.Request setup bytes ∷ []
+items_of max answer.Epoch = item.Epoch ∷ []
 
 abbrev pub answered : Answer → EpText → EpText
 answered a e = record e { items = e.items ++ items_of e.desc.max a }
@@ -286,6 +295,9 @@ after_open w n name = option_map_or (λ d. commanded w n (cmd.OpenEp d)) (known 
 abbrev pub after_cancel : Draft → ℕ → Name → Draft
 after_cancel w n name = where_known w name (commanded w n (cmd.Cancel (name_of name)))
 
+abbrev pub after_clear : Draft → ℕ → Name → Draft
+after_clear w n name = where_known w name (commanded w n (cmd.Clear (name_of name)))
+
 abbrev pub after_get : Draft → ℕ → GetLine → Draft
 after_get w n l = where_known w l.name (commanded (record w { asked = counted w.asked l.len }) n (cmd.Get (name_of l.name) l.len (by_of l.by)))
 
@@ -317,6 +329,7 @@ after w n (says.Stuff name p) = after_stuff w name p
 after w n (says.Hold first last) = record w { declaring = true; holds = w.holds ++ (first, last) ∷ [] }
 after w n (says.Open name) = after_open w n name
 after w n (says.Cancel name) = after_cancel w n name
+after w n (says.Clear name) = after_clear w n name
 after w n (says.Get l) = after_get w n l
 after w n (says.Put l) = after_put w n l
 after w n (says.Control c) = after_control w n c

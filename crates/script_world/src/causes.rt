@@ -4,7 +4,7 @@ ghost use Rattle.std.specs.List.{list_any};
 ghost use Rattle.std.specs.Option.{option_flatten};
 ghost use Rattle.script_world.specs.Draft.{known};
 ghost use Rattle.script_world.specs.Rows.{control_name, is_known, is_used, is_attached, same_bus, is_fated, has_name, is_twice};
-ghost use Rattle.script_world.specs.Rows.{answer_len, content_len, bytes_len, may_command, may_script, has_room, cause_of, is_world};
+ghost use Rattle.script_world.specs.Rows.{answer_len, content_len, bytes_len, may_command, may_script, may_begin, has_room, cause_of, is_world};
 ghost use Rattle.script_world.specs.Rows.{is_late};
 
 use crate::draft::Draft;
@@ -100,6 +100,7 @@ fn is_world(first: FirstWord) -> bool
         FirstWord::Fate => true,
         FirstWord::Hold => true,
         FirstWord::Stuff => true,
+        FirstWord::Epoch => true,
         _ => false,
     }
 }
@@ -145,6 +146,7 @@ impl Draft {
             Statement::Stuff(name, _) => self.is_ep(name),
             Statement::Open(name) => self.is_ep(name),
             Statement::Cancel(name) => self.is_ep(name),
+            Statement::Clear(name) => self.is_ep(name),
             Statement::Get(line) => self.is_ep(&line.name),
             Statement::Put(line) => self.is_ep(&line.name),
             Statement::Control(line) => self.is_ep(&control_name(line.addr)),
@@ -221,6 +223,19 @@ impl Draft {
         self.scripted as u64 + len <= 4_194_304
     }
 
+    /// Whether an endpoint may have one more epoch, where the answer begins one.
+    fn may_begin(&self, name: &Name, answer: &Answer) -> bool
+        ensures { result ≡ may_begin self.now name.now answer.now }
+    {
+        match answer {
+            Answer::Epoch => match self.epochs_after(name) {
+                Some(epochs) => epochs < 16,
+                None => true,
+            },
+            _ => true,
+        }
+    }
+
     /// Whether the limits of a whole script leave room for a line.
     fn has_room(&self, statement: &Statement) -> bool
         ensures { result ≡ has_room self.now statement.now }
@@ -231,12 +246,15 @@ impl Draft {
             Statement::DevHigh(_) => self.devices.len() < 127,
             Statement::DevBelow(_) => self.devices.len() < 127,
             Statement::Ep(_) => self.endpoints.len() < 256,
-            Statement::Reply(_, answer) => self.may_script(answer_len(answer)),
+            Statement::Reply(name, answer) => {
+                self.may_begin(name, answer) && self.may_script(answer_len(answer))
+            }
             Statement::Fate(_) => self.fates.len() < 4_096,
             Statement::Stuff(_, _) => true,
             Statement::Hold(_, _) => self.holds.len() < 256,
             Statement::Open(_) => self.may_command(),
             Statement::Cancel(_) => self.may_command(),
+            Statement::Clear(_) => self.may_command(),
             Statement::Get(line) => {
                 self.may_command() && self.asked as u64 + line.len as u64 <= 4_194_304
             }

@@ -6,7 +6,7 @@ ghost use Rattle.script_world.specs.Draft.{change, known, filled};
 ghost use Rattle.script_world.specs.Rows.{name_of, counted, answered, roomier, stuffed, at_ep, attach, device, translator_of};
 ghost use Rattle.script_world.specs.Rows.{translator_below, with_ep, desc_of, content_len, content_bytes, bytes_len, commanded, by_of};
 ghost use Rattle.script_world.specs.Rows.{put_room, after_hub, after_high, placed_below, after_below, after_ep, after_reply, after_fate};
-ghost use Rattle.script_world.specs.Rows.{after_stuff, after_open, after_cancel, after_get, after_put, after_control, after_iso, after};
+ghost use Rattle.script_world.specs.Rows.{after_stuff, after_open, after_cancel, after_clear, after_get, after_put, after_control, after_iso, after};
 ghost use Rattle.script_world.specs.Rows.{taken, cause_of};
 
 use crate::bytes::{counted, filled, push};
@@ -335,6 +335,16 @@ impl Draft {
         }
     }
 
+    /// The halt of an endpoint is cleared.
+    fn add_clear(&mut self, line: u32, name: &Name) -> Result<(), Memory>
+        ensures { IfOk result (λ _. self.new ≡ after_clear self.old line name.now) }
+    {
+        match self.name_in(name) {
+            Some(name) => self.add_command(line, Cmd::Clear(name)),
+            None => Ok(()),
+        }
+    }
+
     /// Bytes are asked for.
     fn add_get(&mut self, line: u32, get: &GetLine) -> Result<(), Memory>
         ensures { IfOk result (λ _. self.new ≡ after_get self.old line get.now) }
@@ -459,6 +469,7 @@ impl Draft {
             Statement::Hold(first, last) => self.add_hold(first, last),
             Statement::Open(name) => self.add_open(line, &name),
             Statement::Cancel(name) => self.add_cancel(line, &name),
+            Statement::Clear(name) => self.add_clear(line, &name),
             Statement::Get(get) => self.add_get(line, &get),
             Statement::Put(put) => self.add_put(alloc, line, put),
             Statement::Control(control) => self.add_control(alloc, line, control),

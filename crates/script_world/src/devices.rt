@@ -1,7 +1,9 @@
 //! A device that is being declared.
 ghost use Rattle.std.specs.Prelude.{◌≡◌, ℕ, ◌<◌, ◌≤◌, ◌++◌, ◌∷◌, IfOk, [], length, ◌==◌};
 ghost use Rattle.std.specs.List.{position};
-ghost use Rattle.script_world.specs.Draft.{is_named, ep_of, change, device_text};
+ghost use Rattle.std.specs.Prelude.{find};
+ghost use Rattle.std.specs.Option.{option_map};
+ghost use Rattle.script_world.specs.Draft.{is_named, ep_of, epochs_after, change, device_text};
 ghost use Rattle.script_world.specs.Rows.{answered, roomier, stuffed, device, with_ep};
 
 use crate::bytes::push;
@@ -83,6 +85,17 @@ impl DeviceDraft {
             return None;
         };
         Some(self.eps[place].desc())
+    }
+
+    /// How many epochs an endpoint has behind its first.
+    #[tactic(auto, using(crate::proofs::Places::find_at, crate::proofs::Places::find_nowhere))]
+    pub fn epochs_after(&self, name: &Name) -> Option<usize>
+        ensures { result ≡ option_map epochs_after (find (is_named name.now) self.now.eps) }
+    {
+        let Some(place) = self.place_of(name) else {
+            return None;
+        };
+        Some(self.eps[place].epochs_after())
     }
 
     /// Adds an endpoint.

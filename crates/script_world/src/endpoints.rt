@@ -1,7 +1,7 @@
 //! An endpoint that is being declared.
 ghost use Rattle.std.specs.Prelude.{◌≡◌, ℕ, ◌<◌, IfOk, [], length};
 ghost use Rattle.script_forms.specs.declared.statements.Name.{Name as Named};
-ghost use Rattle.script_world.specs.Draft.{way_number, same_way, is_named};
+ghost use Rattle.script_world.specs.Draft.{way_number, same_way, is_named, is_epoch, epochs_after};
 ghost use Rattle.script_world.specs.Rows.{answered, roomier, stuffed};
 
 use crate::bytes::{counted, filled, push, push_packets};
@@ -49,6 +49,16 @@ pub fn same_way(one: Way, other: Way) -> bool
     way_number(one) == way_number(other)
 }
 
+/// Whether what stands behind an item comes in the next epoch.
+fn is_epoch(item: &Item) -> bool
+    ensures { result ≡ is_epoch item.now }
+{
+    match item {
+        Item::Epoch => true,
+        _ => false,
+    }
+}
+
 impl EpDraft {
     /// An endpoint that does nothing yet.
     pub fn new(alloc: Global, desc: EpDesc) -> EpDraft
@@ -77,6 +87,13 @@ impl EpDraft {
         self.desc.name.num.get() as u32 == name.num && same_way(self.desc.name.way, name.way)
     }
 
+    /// How many epochs it has behind its first.
+    pub fn epochs_after(&self) -> usize
+        ensures { result ≡ epochs_after self.now }
+    {
+        self.items.iter().filter(|item| is_epoch(item)).count()
+    }
+
     /// Adds what it does next.
     pub fn answer(&mut self, alloc: Global, answer: Answer) -> Result<(), Memory>
         ensures { IfOk result (λ _. self.new ≡ answered answer self.old) }
@@ -91,6 +108,7 @@ impl EpDraft {
             Answer::Nak(k) => push(&mut self.items, Item::Nak(k)),
             Answer::Nyet => push(&mut self.items, Item::Nyet),
             Answer::Stall => push(&mut self.items, Item::Stall),
+            Answer::Epoch => push(&mut self.items, Item::Epoch),
             Answer::Request { setup, bytes } => {
                 push(&mut self.items, Item::Request { setup, bytes })
             }

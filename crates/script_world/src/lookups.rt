@@ -2,7 +2,7 @@
 ghost use Rattle.std.specs.Prelude.{◌≡◌, ℕ, ◌<◌, ◌==◌, ◌↔◌, IfSome, IsSome, is_some, length};
 ghost use Rattle.std.specs.List.{position};
 ghost use Rattle.std.specs.Option.{option_map};
-ghost use Rattle.script_world.specs.Draft.{speed_of, device_of, hub_of, device_ep, hub_ep, is_name, known, hub_desc};
+ghost use Rattle.script_world.specs.Draft.{speed_of, device_of, hub_of, ep_text, epochs_after, device_ep, hub_ep, is_name, known, hub_desc};
 ghost use Rattle.script_world.specs.Rows.{name_of, is_used};
 
 use crate::draft::Draft;
@@ -108,6 +108,17 @@ impl Draft {
             return None;
         };
         self.devices[place].ep(name)
+    }
+
+    /// How many epochs an endpoint of a declared device has behind its first.
+    #[tactic(auto, using(crate::proofs::Places::find_at, crate::proofs::Places::find_nowhere))]
+    pub(crate) fn epochs_after(&self, name: &Name) -> Option<usize>
+        ensures { result ≡ option_map epochs_after (ep_text self.now name.now) }
+    {
+        let Some(place) = self.device_place(name.addr) else {
+            return None;
+        };
+        self.devices[place].epochs_after(name)
     }
 
     /// A hub's own endpoint.

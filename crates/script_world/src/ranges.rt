@@ -139,6 +139,7 @@ fn can_answer(way: Way, answer: &Answer, kind: EpKind, max: u32) -> bool
         Answer::Nyet => same_way(way, Way::Out) && is_stream(kind),
         Answer::Stall => is_stream(kind),
         Answer::Request { setup: _, bytes: _ } => same_way(way, Way::Ctl),
+        Answer::Epoch => is_stream(kind),
     }
 }
 

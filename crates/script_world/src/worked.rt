@@ -1,14 +1,14 @@
 //! Worked values, which the check computes.
 ghost use Rattle.std.specs.Prelude.{◌≡◌, ℕ, List, [], ◌∷◌, Some, None, true, false};
 ghost use Rattle.std.specs.Option.{option_map};
-ghost use Rattle.script_world.specs.Draft.{empty, filled, packets, device_ep};
+ghost use Rattle.script_world.specs.Draft.{empty, filled, packets, ep_text, device_ep};
 ghost use Rattle.script_world.specs.Ranges.{is_size, is_rate, out_len};
 ghost use Rattle.script_world.specs.Rows.{cause_of, after};
-ghost use Rattle.script_world.specs.Samples.{bulk_line, iso_line, stuff_line, two_devices, behind_a_hub, behind_its_own};
+ghost use Rattle.script_world.specs.Samples.{bulk_line, iso_line, stuff_line, two_devices, a_bulk, epoch_line, begun, behind_a_hub, behind_its_own};
 
-use script_forms::{Statement, TextWhy};
-use script_types::Item;
-use usb_base::{EpKind, Speed, Way};
+use script_forms::{Answer, Statement, TextWhy};
+use script_types::{Item, Line};
+use usb_base::{Cmd, EpKind, Speed, Way};
 
 /// Bytes of a seed, and packets.
 pub fn contents()
@@ -56,6 +56,27 @@ pub fn stuffed_bits()
     ensures unknown { cause_of behind_its_own (stuff_line 3 2 Way.In 6) ≡ Some TextWhy.Unknown }
     ensures twice { cause_of (after behind_its_own 5 (stuff_line 3 1 Way.In 0)) (stuff_line 3 1 Way.In 6) ≡ Some TextWhy.Twice }
     ensures said { (after behind_its_own 5 (stuff_line 3 1 Way.In 6)).stuffed ≡ record { addr = 3; num = 1; way = Way.In } ∷ [] }
+{}
+
+/// Epochs are of bulk and interrupt endpoints, at most 16 behind the first of each.
+pub fn epochs()
+    ensures fine { cause_of a_bulk (epoch_line 3 1 Way.In) ≡ None }
+    ensures item { option_map (λ e. e.items) (ep_text (after a_bulk 5 (epoch_line 3 1 Way.In)) (record { addr = 3; num = 1; way = Way.In }))
+        ≡ Some (Item.Epoch ∷ []) }
+    ensures last { cause_of (begun 15 a_bulk) (epoch_line 3 1 Way.In) ≡ None }
+    ensures limit { cause_of (begun 16 a_bulk) (epoch_line 3 1 Way.In) ≡ Some TextWhy.Limit }
+    ensures others { cause_of (begun 16 a_bulk) (Statement.Reply (record { addr = 3; num = 1; way = Way.In }) Answer.Stall) ≡ None }
+    ensures hub { cause_of behind_its_own (epoch_line 9 0 Way.Ctl) ≡ Some TextWhy.Range }
+    ensures iso { cause_of behind_its_own (epoch_line 3 1 Way.In) ≡ Some TextWhy.Range }
+    ensures unknown { cause_of a_bulk (epoch_line 3 2 Way.In) ≡ Some TextWhy.Unknown }
+{}
+
+/// The clear of an endpoint is a command of its line; the endpoint has to be declared.
+pub fn clears()
+    ensures fine { cause_of a_bulk (Statement.Clear (record { addr = 3; num = 1; way = Way.In })) ≡ None }
+    ensures unknown { cause_of a_bulk (Statement.Clear (record { addr = 3; num = 2; way = Way.In })) ≡ Some TextWhy.Unknown }
+    ensures line { (after a_bulk 5 (Statement.Clear (record { addr = 3; num = 1; way = Way.In }))).lines
+        ≡ (5, Line.Command (Cmd.Clear (record { addr = 3; num = 1; way = Way.In }))) ∷ [] }
 {}
 
 /// The translator of an endpoint: its port where the hub has one for each, else 0.

@@ -250,6 +250,7 @@ after_told w n (says.Stuff name p) t said h =
 after_told w n (says.Hold first last) t said h = record { devices = h.devices; lines = h.lines }
 after_told w n (says.Open name) t said h = opened_told w n (known w name) (known_told w name h.devices) h
 after_told w n (says.Cancel name) t said h = where_told w name _ h (commanded_told w n (cmd.Cancel (name_of name)) tt h)
+after_told w n (says.Clear name) t said h = where_told w name _ h (commanded_told w n (cmd.Clear (name_of name)) tt h)
 after_told w n (says.Get l) t said h =
     where_told w l.name _ h (commanded_told (record w { asked = counted w.asked l.len }) n (cmd.Get (name_of l.name) l.len (by_of l.by)) tt (record { devices = h.devices; lines = h.lines }))
 after_told w n (says.Put l) t said h =

@@ -32,6 +32,7 @@ IsEight (says.Stuff name p) = Unit {0}
 IsEight (says.Hold first last) = Unit {0}
 IsEight (says.Open name) = Unit {0}
 IsEight (says.Cancel name) = Unit {0}
+IsEight (says.Clear name) = Unit {0}
 IsEight (says.Get l) = Unit {0}
 IsEight (says.Put l) = Unit {0}
 IsEight (says.Control c) = length c.setup ≡ 8

@@ -177,6 +177,8 @@ goes w n (says.Hold first last) t = same_goes w _ refl refl
 goes w n (says.Open name) t = opened_goes w n (known w name)
 goes w n (says.Cancel name) t = where_goes w name _
     (λ _. more_lines w _ n (line.Command (cmd.Cancel (name_of name))) (same_eps w.devices) refl tt)
+goes w n (says.Clear name) t = where_goes w name _
+    (λ _. more_lines w _ n (line.Command (cmd.Clear (name_of name))) (same_eps w.devices) refl tt)
 goes w n (says.Get l) t = where_goes w l.name _ (λ _. more_lines w _ n _ (same_eps w.devices) refl tt)
 goes w n (says.Put l) t = where_goes w l.name _ (λ _. more_lines w _ n _ (put_keeps l.name _ w.devices) refl tt)
 goes w n (says.Control c) t = where_goes w (control_name c.addr) _ (λ _. more_lines w _ n _ (same_eps w.devices) refl tt)

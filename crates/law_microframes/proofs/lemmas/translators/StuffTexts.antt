@@ -74,6 +74,7 @@ line_few w n (says.Stuff name p) h =
     (λ _. h)
 line_few w n (says.Open name) h = opened_few w n (known w name) h
 line_few w n (says.Cancel name) h = where_few w name _ h h
+line_few w n (says.Clear name) h = where_few w name _ h h
 line_few w n (says.Get l) h = where_few w l.name _ h h
 line_few w n (says.Put l) h = where_few w l.name _ h (put_few l.name (content_len l.content) w.devices h)
 line_few w n (says.Control c) h = where_few w (control_name c.addr) _ h h

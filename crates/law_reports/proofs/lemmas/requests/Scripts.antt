@@ -131,6 +131,7 @@ after_counted w n (says.Stuff name p) e h =
     (λ _. h)
 after_counted w n (says.Open name) e h = opened_counted w n (known w name) (has_its_room w (says.Open name) e) h
 after_counted w n (says.Cancel name) e h = where_counted w name _ h (commanded_counted w n (cmd.Cancel (name_of name)) (has_its_room w (says.Cancel name) e) h)
+after_counted w n (says.Clear name) e h = where_counted w name _ h (commanded_counted w n (cmd.Clear (name_of name)) (has_its_room w (says.Clear name) e) h)
 after_counted w n (says.Get l) e h =
     let room = has_its_room w (says.Get l) e in
     where_counted w l.name _ h

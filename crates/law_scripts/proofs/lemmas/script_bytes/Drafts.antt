@@ -108,6 +108,7 @@ after_bytes w n (says.Stuff name p) said h =
     (λ _. h)
 after_bytes w n (says.Open name) said h = opened_bytes w n (known w name) h
 after_bytes w n (says.Cancel name) said h = where_bytes w name _ h (commanded_bytes w n (cmd.Cancel (name_of name)) tt h)
+after_bytes w n (says.Clear name) said h = where_bytes w name _ h (commanded_bytes w n (cmd.Clear (name_of name)) tt h)
 after_bytes w n (says.Get l) said h =
     where_bytes w l.name _ h (commanded_bytes (record w { asked = counted w.asked l.len }) n _ tt (record { devices = h.devices; lines = h.lines }))
 after_bytes w n (says.Put l) said h =

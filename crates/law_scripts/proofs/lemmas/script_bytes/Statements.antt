@@ -23,6 +23,7 @@ IsByteAnswered (answer.Nak k) = Unit {0}
 IsByteAnswered answer.Nyet = Unit {0}
 IsByteAnswered answer.Stall = Unit {0}
 IsByteAnswered (answer.Request setup bytes) = AreBytes bytes
+IsByteAnswered answer.Epoch = Unit {0}
 
 abbrev pub IsByteContent : Content → Type 0
 IsByteContent (content.Given bytes) = AreBytes bytes
@@ -40,6 +41,7 @@ IsByteStatement (says.Stuff name p) = Unit {0}
 IsByteStatement (says.Hold first last) = Unit {0}
 IsByteStatement (says.Open name) = Unit {0}
 IsByteStatement (says.Cancel name) = Unit {0}
+IsByteStatement (says.Clear name) = Unit {0}
 IsByteStatement (says.Get l) = Unit {0}
 IsByteStatement (says.Put l) = IsByteContent l.content
 IsByteStatement (says.Control c) = AreBytes c.setup × Holds AreBytes c.bytes

@@ -153,6 +153,7 @@ after_below_hubs w n (says.Stuff name p) h =
     (λ _. h)
 after_below_hubs w n (says.Open name) h = opened_below w n (known w name) (known_below w name h) h
 after_below_hubs w n (says.Cancel name) h = where_below w name _ h (commanded_below w n (cmd.Cancel (name_of name)) tt h)
+after_below_hubs w n (says.Clear name) h = where_below w name _ h (commanded_below w n (cmd.Clear (name_of name)) tt h)
 after_below_hubs w n (says.Get l) h = where_below w l.name _ h (commanded_below (record w { asked = counted w.asked l.len }) n _ tt (record { devices = h.devices; lines = h.lines }))
 after_below_hubs w n (says.Put l) h =
     where_below w l.name _ h

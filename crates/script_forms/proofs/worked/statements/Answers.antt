@@ -16,3 +16,11 @@ returns-clause-hold c = refl
 pub returns-clause-multi : goal.returns-clause-multi
 unfolding number_of hex_of form_of statement_of digits
 returns-clause-multi c = refl
+
+pub returns-clause-epoch : goal.returns-clause-epoch
+unfolding number_of hex_of form_of statement_of digits
+returns-clause-epoch c = refl
+
+pub returns-clause-clear : goal.returns-clause-clear
+unfolding number_of hex_of form_of statement_of digits
+returns-clause-clear c = refl

@@ -254,6 +254,7 @@ after_plugged w n (says.Stuff name p) h =
     (λ _. h)
 after_plugged w n (says.Open name) h = opened_plugged w n (known w name) h
 after_plugged w n (says.Cancel name) h = where_plugged w name _ h (same_plugged w _ refl refl h)
+after_plugged w n (says.Clear name) h = where_plugged w name _ h (same_plugged w _ refl refl h)
 after_plugged w n (says.Get l) h = where_plugged w l.name _ h (same_plugged w _ refl refl h)
 after_plugged w n (says.Put l) h =
     where_plugged w l.name _ h

@@ -60,6 +60,7 @@ after_added w n (says_to.Stuff name p) =
     cond_both (nat_le p 6) _ w (AddsAtMost w n) (λ _. where_added w n name _ (inl refl)) (λ _. inl refl)
 after_added w n (says_to.Open name) = open_added w n (known w name)
 after_added w n (says_to.Cancel name) = where_added w n name _ (command_added w w n (cmd.Cancel (name_of name)) refl)
+after_added w n (says_to.Clear name) = where_added w n name _ (command_added w w n (cmd.Clear (name_of name)) refl)
 after_added w n (says_to.Get l) = where_added w n l.name _ (command_added w (record w { asked = counted w.asked l.len }) n _ refl)
 after_added w n (says_to.Put l) =
     where_added w n l.name _ (command_added w (record w { scripted = counted w.scripted (content_len l.content); devices = put_room l.name (content_len l.content) w.devices }) n _ refl)
