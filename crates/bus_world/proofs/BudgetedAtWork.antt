@@ -13,6 +13,7 @@ use Rattle.usb_base.specs.declared.reports.OfferError.TheVariants as errors
 use Rattle.usb_base.specs.declared.rules.Rules.{Rules}
 use Rattle.script_types.specs.declared.scripts.Event.{Event}
 use Rattle.script_types.specs.declared.scripts.Event.TheVariants as events
+use Rattle.script_types.specs.declared.scripts.Line.{Line}
 use Rattle.script_types.specs.declared.scripts.Script.{Script}
 use Rattle.bus_wire.specs.Bus.{Fixed, fixed_of}
 use Rattle.drv_table.specs.Accepting.{Offered}
@@ -24,15 +25,14 @@ use Rattle.drv_jobs.specs.declared.jobs.JobRow.TheVariants as rows
 use Rattle.drv_jobs.specs.AtWork.{free_room}
 use Rattle.drv_jobs.specs.Jobs.{job_row, after_job_row}
 use Rattle.drv_jobs.specs.JobOffers.{OfferedAny, IsOfferedAny, offered_any, without_job}
-use Rattle.script_fits.specs.Fits.{IsFit}
+use Rattle.script_fits.specs.Fits.{IsFit, IsFitLine}
 use Rattle.law_admission.specs.Budgets.{account_of, KeepsBudgets}
 use Rattle.law_admission.proofs.Budgets.{opening_keeps_budgets}
 use Rattle.law_admission.proofs.Refusals.{refused_where_none_fits}
 use Rattle.bus_world.specs.World.{name_in}
-use Rattle.bus_world.specs.Opening.{opening_world}
 use Rattle.bus_world.specs.Orders.{Left, Events, Microframes, Answer, Command, Plugs, orders_of, fewer}
 use Rattle.bus_world.specs.Rooms.{needs, no_room, with_room, reserve_of, room_of_script, HasRoomFor}
-use Rattle.bus_world.specs.AtWork.{WorldAtWork, parts_of, with_work, reset_by, driver_next_by, next_at_work, driver_of, answered_at_work}
+use Rattle.bus_world.specs.AtWork.{WorldAtWork, parts_of, with_work, reset_by, driver_next_by, next_at_work, driver_of, room_in, answered_at_work}
 use Rattle.bus_world.specs.AtWork.{commanded_at_work}
 use Rattle.bus_world.specs.RunsAtWork.{PlaceAtWork, place_at_work, tick_by_at_work, tick_from_at_work, tick_at_work, ticks_at_work}
 use Rattle.bus_world.specs.RunsAtWork.{opening_at_work}
@@ -67,6 +67,10 @@ driver_kept w row k =
 next_kept : (fixed : Fixed) (w : WorldAtWork) (event : Event) → Kept w (next_at_work fixed w event)
 next_kept fixed w events.D = driver_kept w (job_row (parts_of w)) (work_keeps (parts_of w))
 next_kept fixed w events.C = record { budgets = λ h. h; room = refl; rules = refl }
+
+-- what of the driver's reserve is free stays
+pub next_room : (fixed : Fixed) (w : WorldAtWork) (event : Event) → room_in (next_at_work fixed w event) ≡ room_in w
+next_room fixed w event = (next_kept fixed w event).room
 
 -- ---- one command
 
@@ -205,14 +209,20 @@ free_opening s =
     let all : HasRoomFor (room_of_script s) (reserve_of s.lines) = room_of_all s in
     record { endpoints = all.endpoints; transfers = all.transfers; reports = omega (arith, all.reports); report_bytes = all.report_bytes }
 
+pub run_admits_at_work : (fixed : Fixed) (w : WorldAtWork) (xs : List (ℕ × Line)) → KeepsBudgets (account_of w.world.driver)
+    → HasRoomFor (room_in w) (reserve_of xs) → AllByRecursion (λ x. IsFitLine x.1) xs → (k : ℕ)
+    → AdmitsExactlyAtWork w.world.driver.periodic.plan.rules (ticks_at_work fixed (place_at_work w (orders_of xs)) k)
+run_admits_at_work fixed w xs budgets room fits k =
+    let p : PlaceAtWork = ticks_at_work fixed (place_at_work w (orders_of xs)) k in
+    let rules : Rules = w.world.driver.periodic.plan.rules in
+    admits rules p.work p.orders (all_ready rules fixed (place_at_work w (orders_of xs)) k (record {
+      rules_stand = refl;
+      budgets = budgets;
+      room = subst (HasRoomFor (room_in w)) (sym (lines_need xs)) room;
+      fits = lines_fit xs fits;
+    }))
+
 -- each moment of the run of a script that fits
 pub scripts_admit_at_work : (s : Script) → IsFit s → AdmitsAtWork s
 scripts_admit_at_work s fit k =
-    let p : PlaceAtWork = ticks_at_work (fixed_of s) (place_at_work (opening_at_work s) (orders_of s.lines)) k in
-    let rules : Rules = (opening_world s).driver.periodic.plan.rules in
-    admits rules p.work p.orders (all_ready rules (fixed_of s) (place_at_work (opening_at_work s) (orders_of s.lines)) k (record {
-      rules_stand = refl;
-      budgets = opening_keeps_budgets s.words (room_of_script s);
-      room = subst (HasRoomFor (free_room (driver_of (opening_at_work s)))) (sym (lines_need s.lines)) (free_opening s);
-      fits = lines_fit s.lines fit.lines;
-    }))
+    run_admits_at_work (fixed_of s) (opening_at_work s) s.lines (opening_keeps_budgets s.words (room_of_script s)) (free_opening s) fit.lines k

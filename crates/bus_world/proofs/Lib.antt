@@ -14,3 +14,7 @@ pub mod RoomsAtWork
 pub mod KeptAtWork
 pub mod OffersAtWork
 pub mod BudgetedAtWork
+pub mod TicksAtWork
+pub mod WaysAtWork
+pub mod SoundsAtWork
+pub mod EpochTexts

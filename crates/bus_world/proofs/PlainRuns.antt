@@ -30,14 +30,14 @@ use Rattle.drv_jobs.specs.JobOffers.{offered_any, offered_whole, without_job}
 use Rattle.bus_world.specs.World.{World, next, name_in, commanded, commanded_by}
 use Rattle.bus_world.specs.Opening.{opening_world}
 use Rattle.bus_world.specs.Orders.{Left, Events, Microframes, Answer, Command, Plugs, OrderedWorld, at_place, left_of, orders_of}
-use Rattle.bus_world.specs.Orders.{tick, tick_by, tick_at, ticks, Leads, IsOverlong, IsRun}
+use Rattle.bus_world.specs.Orders.{tick, tick_by, tick_at, ticks, IsOverlong, IsRun}
 use Rattle.bus_world.specs.Budgets.{moment}
 use Rattle.bus_world.specs.AtWork.{WorldAtWork, StandingAtWork, jobless, next_at_work, driver_of, answered_at_work, commanded_at_work}
 use Rattle.bus_world.specs.Closing.{waiting, waiting_text, device_text, hub_of, told_by, closing_text, world_text}
 use Rattle.bus_world.specs.ClosingAtWork.{epochs_of, taken_lines, device_text_at_work, told_by_at_work, closing_at_work, text_at_work}
 use Rattle.bus_world.specs.Plain.{IsPlain, IsPlainCommand, IsPlainLine, ArePlain}
 use Rattle.bus_world.specs.RunsAtWork.{PlaceAtWork, place_at_work, tick_by_at_work, tick_from_at_work, ticks_at_work}
-use Rattle.bus_world.specs.RunsAtWork.{moment_at_work, opening_at_work, jobless_place, LeadsAtWork, IsOverlongAtWork, IsRunAtWork}
+use Rattle.bus_world.specs.RunsAtWork.{moment_at_work, jobless_place, IsOverlongAtWork, IsRunAtWork}
 use Rattle.bus_world.specs.RunsAtWork.{IsRunOfAtWork}
 
 -- ---- one event or command
@@ -198,21 +198,10 @@ run_plain fixed w orders v h (inr long) =
     let o = overlong_plain fixed (at_place w orders) v h long in
     record { work = o.0; ran = inr o.1 }
 
--- the run of a plain script, and all of it
+-- the run of a plain script
 pub plain_scripts_run : (s : Script) (w : StandingAtWork) → IsPlain s → IsRunOfAtWork s w
     → IsJoblessRun (fixed_of s) (opening_world s) (orders_of s.lines) w.work
 plain_scripts_run s w h ran = run_plain (fixed_of s) (opening_world s) (orders_of s.lines) w.work (lines_plain s.lines h) ran.ran
-
-pub plain_scripts_lead : (s : Script) (w : WorldAtWork) → IsPlain s → w ≡ jobless w.world
-    → Leads (fixed_of s) (at_place (opening_world s) (orders_of s.lines)) (at_place w.world [])
-    → LeadsAtWork (fixed_of s) (place_at_work (opening_at_work s) (orders_of s.lines)) (place_at_work w [])
-plain_scripts_lead s w h is led = record {
-  count = led.count;
-  there =
-      ticks_plain (fixed_of s) (at_place (opening_world s) (orders_of s.lines)) led.count (lines_plain s.lines h)
-      ∙ ap jobless_place led.there
-      ∙ ap (λ (v : WorldAtWork). place_at_work v []) (sym is);
-}
 
 -- ---- the report
 

@@ -24,6 +24,8 @@ use Rattle.endpoint_script.specs.Taking.{Taking, next_row, out_row, ping_row, ha
 use Rattle.endpoint_script.specs.Device.{Device, opened_part, opened_endpoint, opening, part_begun, endpoint_begun, begun, part_answered, endpoint_answered, part_acked}
 use Rattle.endpoint_script.specs.Device.{endpoint_acked, answered, answered_in, answered_at, acked_by, acked_in, acked_at, endpoint_asked, taken_of, taken_from, part_taken, endpoint_at}
 use Rattle.endpoint_script.specs.Device.{place_of_name}
+use Rattle.endpoint_script.specs.Resets.{part_reset, endpoint_reset, reset_at, reset_in, device_reset}
+use Rattle.bus_wire.specs.Resets.{bus_reset}
 use Rattle.bus_wire.specs.declared.asked.Asked.{Asked}
 use Rattle.bus_wire.specs.declared.who_heard.WhoHeard.{WhoHeard}
 use Rattle.bus_wire.specs.declared.who_heard.WhoHeard.TheVariants as rows
@@ -204,6 +206,26 @@ pub begin_roomy : (fixed : Fixed) (frindex : ℕ) (b : Bus) → AllByRecursion I
 begin_roomy fixed frindex b h =
     all_map IsRoomyDevice IsRoomyDevice (begun_at frindex) (floor_worked fixed b.hubs (floor_of b)).devices (begun_at_roomy frindex)
     (worked_roomy fixed b.hubs (floor_of b) h)
+
+-- ---- the reset of an endpoint
+
+part_reset_roomy : (part : Role) → IsRoomy part → IsRoomy (part_reset part)
+part_reset_roomy (Takes t) h = h
+part_reset_roomy _ h = tt
+
+reset_at_roomy : (es : List Endpoint) (place : ℕ) (e : Option Endpoint) → AllByRecursion IsRoomyEndpoint es → Holds IsRoomyEndpoint e
+    → AllByRecursion IsRoomyEndpoint (reset_at es place e)
+reset_at_roomy es place None h k = h
+reset_at_roomy es place (Some e) h k = all_set IsRoomyEndpoint es place (endpoint_reset e) h (part_reset_roomy e.part k)
+
+reset_in_roomy : (es : List Endpoint) (place : Option ℕ) → AllByRecursion IsRoomyEndpoint es → AllByRecursion IsRoomyEndpoint (reset_in es place)
+reset_in_roomy es None h = h
+reset_in_roomy es (Some place) h = reset_at_roomy es place (slice_get es place) h (all_get IsRoomyEndpoint es place h)
+
+pub reset_roomy : (name : EpName) (b : Bus) → AllByRecursion IsRoomyDevice b.devices → AllByRecursion IsRoomyDevice (bus_reset name b).devices
+reset_roomy name b h =
+    all_map IsRoomyDevice IsRoomyDevice (device_reset name) b.devices
+    (λ d k. record { each = reset_in_roomy d.endpoints (place_of_name d name) k.each }) h
 
 -- ---- the opening
 

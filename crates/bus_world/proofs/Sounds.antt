@@ -1,9 +1,6 @@
 -- What holds of a world at each moment holds after each event and each command.
-use Rattle.std.proofs.Common.{◌≡◌, ℕ, Bool, true, false, List, length, Option, Some, None, Ok, sym, subst, arith}
+use Rattle.std.proofs.Common.{◌≡◌, ℕ, Bool, true, false, List, length, Option, Some, None, sym, subst, arith}
 use Rattle.std.specs.List.{AllByRecursion}
-use Rattle.usb_base.specs.declared.commands.Cmd.{Cmd}
-use Rattle.usb_base.specs.declared.endpoints.EpName.{EpName}
-use Rattle.usb_base.specs.declared.reports.OfferError.{OfferError}
 use Rattle.report_text.specs.ReportText.{AreStored}
 use Rattle.word_mem.specs.Memory.{Mem}
 use Rattle.word_mem.specs.Access.{IsByController}
@@ -24,29 +21,13 @@ use Rattle.periodic_walk.specs.Rows.{effect_of}
 use Rattle.hc_core.specs.Controller.{Content, entered, frame_place, walk_place}
 use Rattle.drv_table.specs.DriverContent.{DriverContent, new_driver}
 use Rattle.drv_table.specs.declared.content.Reserve.{Reserve}
-use Rattle.drv_table.specs.Parts.{Parts}
-use Rattle.drv_table.specs.Rows.{driver_row, after_driver_row}
-use Rattle.drv_table.specs.Offers.{IsOffered, offered}
 use Rattle.bandwidth.proofs.Budgets.{fits_none}
 use Rattle.law_admission.specs.Budgets.{account_of, KeepsBudgets}
-use Rattle.law_admission.proofs.Budgets.{commands_keep_budgets, events_keep_budgets}
 use Rattle.bus_wire.specs.Bus.{Fixed, Bus}
-use Rattle.bus_world.specs.World.{Standing, World, controller_row, controller_parts, controller_next, turned_by, frame_by, walk_by, sends_by, sent_by, refused_line}
+use Rattle.bus_world.specs.World.{Standing, World, controller_row, controller_parts, controller_next, turned_by, frame_by, walk_by, sends_by, sent_by}
 use Rattle.bus_world.specs.Sound.{IsSound, IsRoomyDevice}
-use Rattle.bus_world.proofs.Kept.{row_keeps, line_stored}
 use Rattle.bus_world.proofs.Standing.{book_stands}
 use Rattle.bus_world.proofs.Roomy.{transact_roomy, begin_roomy}
-use Rattle.bus_world.proofs.Offering.{Lines, SameLines, offer_lines}
-
--- ---- the driver
-
-pub driver_sound : (p : Parts) (new : DriverContent) (m : Mem) (b : Bus) → IsSound p.driver p.memory b → Stands (holding new.book m) → new ≡ (after_driver_row (driver_row p) p).driver → IsSound new m b
-driver_sound p new m b h stands e = record {
-  stands = stands;
-  stored = subst (λ (d : DriverContent). AreStored d.reports (length d.store)) (sym e) ((row_keeps (driver_row p) p).stored h.stored);
-  roomy = h.roomy;
-  budgets = subst (λ (d : DriverContent). KeepsBudgets (account_of d)) (sym e) (events_keep_budgets p h.budgets);
-}
 
 -- ---- the controller
 
@@ -86,28 +67,6 @@ controller_sound s m b h by e = record {
   stands = book_stands s.world.driver.book s.world.memory m h.stands by;
   stored = h.stored;
   roomy = subst AreRoomy (sym e) (next_roomy s.fixed s.world h.roomy);
-  budgets = h.budgets;
-}
-
--- ---- a command
-
-same_stored : (d e : DriverContent) → SameLines d e → AreStored d.reports (length d.store) → AreStored e.reports (length e.store)
-same_stored d e same h = rw (same.reports, same.store) h
-
-pub accepted_sound : (d : DriverContent) (m : Mem) (b : Bus) (cmd : Cmd) (new : DriverContent) (n : Mem) → IsOffered d.room cmd → IsSound d m b → offered d m cmd ≡ Ok (record { driver = new; memory = n })
-    → Stands (holding new.book n) → IsSound new n b
-accepted_sound d m b cmd new n ok h e stands = record {
-  stands = stands;
-  stored = same_stored d new (subst (Lines d) e (offer_lines d m cmd)) h.stored;
-  roomy = h.roomy;
-  budgets = commands_keep_budgets d m cmd (record { driver = new; memory = n }) ok h.budgets e;
-}
-
-pub refused_sound : (d : DriverContent) (m : Mem) (b : Bus) (n : ℕ) (name : EpName) (why : OfferError) → IsSound d m b → IsSound (refused_line d n name why) m b
-refused_sound d m b n name why h = record {
-  stands = h.stands;
-  stored = line_stored d.reports _ (length d.store) h.stored (omega arith);
-  roomy = h.roomy;
   budgets = h.budgets;
 }
 

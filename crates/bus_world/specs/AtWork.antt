@@ -3,8 +3,9 @@
 --     WorldAtWork                    a world, the job of its driver, and what the endpoints that were reset had taken by then
 --     next_at_work fixed w event     what one event leaves
 --     commanded_at_work w n cmd      what a command on line n leaves
---     jobless w                  a world with no job, where no endpoint was reset
-use Rattle.std.specs.Prelude.{ℕ, List, [], ◌∷◌, ◌++◌, ◌==◌, length, find, Option, None, Result, Ok, Err}
+--     room_in w                      what of the driver's reserve isn't used, nor to be used by its job
+--     jobless w                      a world with no job, where no endpoint was reset
+use Rattle.std.specs.Prelude.{ℕ, List, [], ◌∷◌, ◌++◌, ◌==◌, length, find, Option, Some, None, Result, Ok, Err}
 use Rattle.std.specs.Option.{option_map_or}
 use Rattle.usb_base.specs.declared.commands.Cmd.{Cmd}
 use Rattle.usb_base.specs.declared.endpoints.EpName.{EpName}
@@ -17,7 +18,10 @@ use Rattle.bus_wire.specs.Resets.{bus_reset}
 use Rattle.drv_jobs.specs.declared.jobs.Job.{Job}
 use Rattle.drv_jobs.specs.declared.jobs.JobRow.{JobRow}
 use Rattle.drv_jobs.specs.declared.jobs.JobRow.TheVariants as rows
-use Rattle.drv_jobs.specs.AtWork.{DriverAtWork, PartsAtWork}
+use Rattle.drv_table.specs.declared.content.Reserve.{Reserve}
+use Rattle.drv_table.specs.declared.rows.DriverStep.{DriverStep}
+use Rattle.drv_table.specs.declared.rows.DriverStep.TheVariants as steps
+use Rattle.drv_jobs.specs.AtWork.{DriverAtWork, PartsAtWork, free_room}
 use Rattle.drv_jobs.specs.Jobs.{job_row, after_job_row}
 use Rattle.drv_jobs.specs.JobOffers.{OfferedAny, offered_any}
 use Rattle.bus_world.specs.declared.marks.Mark.{Mark}
@@ -54,6 +58,11 @@ marked w name = record w {
   marks = w.marks ++ record { name = name; taken = taken_at w.world.bus name } ∷ [];
 }
 
+-- the endpoint that an event of this kind resets
+abbrev pub reset_in : DriverStep → Option EpName
+reset_in (steps.Reset name) = Some name
+reset_in step = None
+
 -- the reset of an endpoint is its device's or hub's; no other row is
 abbrev pub reset_by : JobRow → WorldAtWork → WorldAtWork
 reset_by (rows.Resets name) w = marked w name
@@ -74,6 +83,9 @@ next_at_work fixed w events.C = record w { world = controller_next fixed w.world
 
 abbrev pub driver_of : WorldAtWork → DriverAtWork
 driver_of w = record { driver = w.world.driver; job = w.job }
+
+abbrev pub room_in : WorldAtWork → Reserve
+room_in w = free_room (driver_of w)
 
 abbrev pub answered_at_work : WorldAtWork → ℕ → EpName → Result OfferedAny OfferError → WorldAtWork
 answered_at_work w n name (Ok o) = record w { world = record w.world { driver = o.driver.driver; memory = o.memory }; job = o.driver.job }

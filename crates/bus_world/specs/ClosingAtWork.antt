@@ -1,5 +1,6 @@
 -- The report of a world at work as text: as Closing has it, but that what a device took is told epoch by epoch (USB 2.0, 9.4.5).
 --     epochs_of ends from taken   these bytes in epochs, of which the first begins at `from` and the others where it is said
+--     mark_text m name taken from  the line of the epoch that a reset ended, if it was of this endpoint
 --     closing_at_work w s         what closes the report of an endpoint
 --     text_at_work fixed w        the whole report
 use Rattle.std.specs.Prelude.{ℕ, ◌-◌, List, [], ◌∷◌, ◌++◌, ◌==◌, take, drop, map, filter, find, Option, Some, None, if◌then◌else◌}
@@ -29,6 +30,13 @@ ends_of marks name = map (λ m. m.taken) (filter (λ m. is_same_name m.name name
 unfoldable pub epochs_of : List ℕ → List ℕ → ℕ → List (List ℕ)
 epochs_of [] taken from = drop from taken ∷ []
 epochs_of (n ∷ ends) taken from = take (n - from) (drop from taken) ∷ epochs_of ends taken n
+
+-- the epoch that a reset ended, and where the next one begins; a reset of another endpoint is none
+abbrev pub mark_text : Mark → EpName → List ℕ → ℕ → List ℕ
+mark_text m name taken from = if is_same_name m.name name then taken_line name (take (m.taken - from) (drop from taken)) else []
+
+abbrev pub mark_end : Mark → EpName → ℕ → ℕ
+mark_end m name from = if is_same_name m.name name then m.taken else from
 
 abbrev pub taken_lines : List Mark → EpName → List ℕ → List ℕ
 taken_lines marks name taken = flat_map (taken_line name) (epochs_of (ends_of marks name) taken 0)

@@ -11,3 +11,4 @@ pub mod Plain
 pub mod RunsAtWork
 pub mod ClosingAtWork
 pub mod BudgetsAtWork
+pub mod PlainEnds

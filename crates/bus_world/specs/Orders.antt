@@ -73,14 +73,6 @@ pub record Leads (fixed : Fixed) (p q : OrderedWorld) : Type 0 where
 abbrev pub at_place : World → List Left → OrderedWorld
 at_place w orders = record { world = w; orders = orders }
 
--- Whatever is ordered after it, carrying out this order leads from the world w to v.
-abbrev pub CarriesOut : Fixed → World → Left → World → Type 0
-CarriesOut fixed w order v = (rest : List Left) → Leads fixed (at_place w (order ∷ rest)) (at_place v rest)
-
--- Whatever is ordered after it, the first of the microframes that are ordered leads from the world w to v.
-abbrev pub EndsMicroframe : Fixed → World → World → Type 0
-EndsMicroframe fixed w v = (n : ℕ) (rest : List Left) → Leads fixed (at_place w (Microframes (suc n) ∷ rest)) (at_place v (Microframes n ∷ rest))
-
 -- ---- a microframe that doesn't end
 
 -- the most turns that the program makes in one microframe; the definitions above know no such bound
@@ -93,10 +85,6 @@ pub record IsUnended (fixed : Fixed) (p q : OrderedWorld) : Type 0 where
   pub many : turns ≡ most_turns
   pub still : ticks fixed p (2 * turns) ≡ q
 
--- Whatever is ordered after it, the first of the microframes that are ordered hasn't ended after the most turns, which lead from w to v.
-abbrev pub IsMicroframeUnended : Fixed → World → World → Type 0
-IsMicroframeUnended fixed w v = (n : ℕ) (rest : List Left) → IsUnended fixed (at_place w (Microframes (suc n) ∷ rest)) (at_place v (Microframes (suc n) ∷ rest))
-
 -- The run from p on came to a microframe that hasn't ended after the most turns, and stopped there with the world w.
 pub record IsOverlong (fixed : Fixed) (p : OrderedWorld) (w : World) : Type 0 where
   pub begun : World  -- where the microframe began, or the orders of microframes did
@@ -104,10 +92,6 @@ pub record IsOverlong (fixed : Fixed) (p : OrderedWorld) (w : World) : Type 0 wh
   pub rest : List Left
   pub leads : Leads fixed p (at_place begun (Microframes (suc n) ∷ rest))
   pub unended : IsUnended fixed (at_place begun (Microframes (suc n) ∷ rest)) (at_place w (Microframes (suc n) ∷ rest))
-
--- Whatever is ordered after it, carrying out this order stops at the world v, in a microframe that doesn't end.
-abbrev pub StopsIn : Fixed → World → Left → World → Type 0
-StopsIn fixed w order v = (rest : List Left) → IsOverlong fixed (at_place w (order ∷ rest)) v
 
 -- The run of these orders: every one was carried out, or a microframe hasn't ended after the most turns that the program makes.
 abbrev pub IsRun : Fixed → World → List Left → World → Type 0

@@ -1,18 +1,12 @@
--- A world after the run of a script.
---     IsRunOf s w        every line was carried out, or a microframe hasn't ended after the most turns
+-- A world after the run of a script by a driver without jobs.
 --     IsWholeRunOf s w   every line was carried out
 use Rattle.std.specs.Prelude.{◌≡◌, []}
 use Rattle.script_types.specs.declared.scripts.Script.{Script}
 use Rattle.bus_world.specs.Opening.{opening_standing}
-use Rattle.bus_world.specs.Orders.{at_place, Leads, IsRun, orders_of}
+use Rattle.bus_world.specs.Orders.{at_place, Leads, orders_of}
 use Rattle.bus_world.specs.World.{Standing}
 
 -- ---- scripts
-
--- a world after the run of a script: from its opening on, the action lines in their order
-pub record IsRunOf (s : Script) (w : Standing) : Type 0 where
-  pub fixed : w.fixed ≡ (opening_standing s).fixed
-  pub ran : IsRun (opening_standing s).fixed (opening_standing s).world (orders_of s.lines) w.world
 
 -- a world after the run of a script, all of whose lines were carried out
 pub record IsWholeRunOf (s : Script) (w : Standing) : Type 0 where

@@ -5,7 +5,6 @@
 --     moment_at_work s k         the run of a script after k events and commands
 --     IsRunAtWork ..             a run of orders: every one was carried out, or a microframe hasn't ended after the most turns
 --     IsRunOfAtWork s w          a world after the run of a script
---     IsWholeRunAtWork s w       .. with every line carried out
 use Rattle.std.specs.Prelude.{◌≡◌, ℕ, zero, suc, ◌*◌, ◌⊎◌, List, [], ◌∷◌}
 use Rattle.script_types.specs.declared.scripts.Event.TheVariants as events
 use Rattle.script_types.specs.declared.scripts.Script.{Script}
@@ -106,8 +105,3 @@ IsRunAtWork fixed w orders end =
 pub record IsRunOfAtWork (s : Script) (w : StandingAtWork) : Type 0 where
   pub fixed : w.fixed ≡ fixed_of s
   pub ran : IsRunAtWork (fixed_of s) (opening_at_work s) (orders_of s.lines) w.work
-
--- .. with every line carried out
-pub record IsWholeRunAtWork (s : Script) (w : StandingAtWork) : Type 0 where
-  pub fixed : w.fixed ≡ fixed_of s
-  pub led : LeadsAtWork (fixed_of s) (place_at_work (opening_at_work s) (orders_of s.lines)) (place_at_work w.work [])

@@ -3,11 +3,12 @@ ghost use Rattle.usb_base.specs.Limits.{longest_qtd};
 ghost use Rattle.drv_table.specs.Words.{request_length};
 ghost use Rattle.script_fits.specs.Fits.{IsFit};
 ghost use Rattle.bus_world.specs.Rooms.{needs, needs_line, transfer_room, with_room, reserve_of, rules_of, room_of_script, HasRoomFor};
-ghost use Rattle.bus_world.specs.Opening.{opening_standing};
+ghost use Rattle.bus_world.specs.AtWork.{room_in};
+ghost use Rattle.bus_world.specs.RunsAtWork.{standing_at_work};
 
 use crate::world::World;
 use bus_wire::UsbBus;
-use ehci_driver::{Driver, Reserve};
+use ehci_driver::{Driver, DriverAtWork, Reserve};
 use hc_core::Controller;
 use op_registers::Registers;
 use script_types::{Line, Script};
@@ -181,8 +182,8 @@ impl World {
     /// `Memory` where a part of it finds no room.
     pub fn build(alloc: Global, script: &Script) -> Result<World, Memory>
         requires { IsFit script.now }
-        ensures world { IfOk result (λ w. w ≡ opening_standing script.now) }
-        ensures room { IfOk result (λ w. HasRoomFor w.world.driver.room (reserve_of script.now.lines)) }
+        ensures work { IfOk result (λ w. w ≡ standing_at_work script.now) }
+        ensures room { IfOk result (λ w. HasRoomFor (room_in w.work) (reserve_of script.now.lines)) }
     {
         let Some(reserve) = room_of_script(script) else {
             return Err(Memory);
@@ -191,6 +192,14 @@ impl World {
         let mut mem = WordMem::build(alloc, script.words)?;
         let mut registers = Registers::reset();
         let driver = Driver::build(alloc, &reserve, &mut registers, &mut mem)?;
-        Ok(World::of_parts(registers, mem, Controller::new(), driver, bus))
+        let marks = Vec::with_capacity(alloc, reserve.reports as usize)?;
+        Ok(World::of_parts(
+            registers,
+            mem,
+            Controller::new(),
+            DriverAtWork::new(driver),
+            bus,
+            marks,
+        ))
     }
 }

@@ -1,15 +1,19 @@
-ghost use Rattle.std.specs.Prelude.{◌≡◌, ◌≤◌, ◌<◌, ◌^◌, ◌==◌, length, find, IfSome};
+ghost use Rattle.std.specs.Prelude.{◌≡◌, ◌≤◌, ◌<◌, ◌^◌, ◌++◌, ◌∷◌, [], ◌==◌, length, find, vec_capacity, IfSome};
 ghost use Rattle.std.specs.Option.{option_copied};
 ghost use Rattle.usb_base.specs.declared.endpoints.EpName.{EpName as Named};
 ghost use Rattle.report_text.specs.ReportText.{AreStored};
 ghost use Rattle.endpoint_script.specs.Device.{taken_of};
-ghost use Rattle.drv_table.specs.Offers.{IsOffered};
+ghost use Rattle.bus_wire.specs.Resets.{bus_reset};
+ghost use Rattle.drv_jobs.specs.JobOffers.{IsOfferedAny};
 ghost use Rattle.law_admission.specs.Budgets.{account_of, KeepsBudgets};
-ghost use Rattle.bus_world.specs.Sound.{IsSound};
-ghost use Rattle.bus_world.specs.World.{driver_next, controller_next, next, kind_next, endpoint_zero, name_in, commanded};
+ghost use Rattle.bus_world.specs.Sound.{IsSoundAtWork};
+ghost use Rattle.bus_world.specs.World.{controller_next, kind_next, endpoint_zero, name_in};
+ghost use Rattle.bus_world.specs.AtWork.{reset_in, taken_at, driver_next_at_work, next_at_work, room_in, commanded_at_work};
 
+use crate::marks::Mark;
 use bus_wire::{Seat, UsbBus};
-use ehci_driver::Driver;
+use drv_table::DriverStep;
+use ehci_driver::{Driver, DriverAtWork};
 use endpoint_script::Device;
 use hc_core::{Controller, HcStep};
 use hub_class::Hub;
@@ -19,29 +23,35 @@ use std::marker::Model;
 use usb_base::{Cmd, DevAddr, EpName, EpNum, Way};
 use word_mem::WordMem;
 
-/// The world of a script, at the end of some event. Contracts see what is fixed of its bus, and the content `World` of
-/// specs/World.antt.
+/// The world of a script, at the end of some event. Contracts see what is fixed of its bus, and the content `WorldAtWork` of
+/// specs/AtWork.antt.
 #[derive(Drop)]
 pub struct World {
     registers: Registers,
     mem: WordMem,
     controller: Controller,
-    driver: Driver,
+    driver: DriverAtWork,
     bus: UsbBus,
+    marks: Vec<Mark>,
 }
 
 impl Model for World {
-    ghost use Rattle.bus_world.specs.World.{Standing};
-    ghost use Rattle.bus_world.specs.Sound.{IsSound};
+    ghost use Rattle.std.specs.Prelude.{length, vec_capacity};
+    ghost use Rattle.bus_world.specs.AtWork.{StandingAtWork};
+    ghost use Rattle.bus_world.specs.Sound.{IsSoundAtWork};
 
-    ghost Value = { Standing };
+    ghost Value = { StandingAtWork };
 
     ghost view = { λ w. record {
       fixed = w.bus.fixed;
-      world = record { registers = w.registers; memory = w.mem; control = w.controller; driver = w.driver; bus = w.bus.bus };
+      work = record {
+        world = record { registers = w.registers; memory = w.mem; control = w.controller; driver = w.driver.driver; bus = w.bus.bus };
+        job = w.driver.job;
+        marks = w.marks.items;
+      };
     } };
 
-    ghost invariant = { λ w. IsSound w.driver w.mem w.bus.bus };
+    ghost invariant = { λ w. IsSoundAtWork w.driver w.mem w.bus.bus (length w.marks.items) (vec_capacity w.marks) };
 }
 
 /// The endpoint that a command is for.
@@ -72,17 +82,57 @@ fn endpoint_zero(addr: DevAddr) -> EpName
     }
 }
 
+/// The endpoint that an event of the driver resets, if it is one that does.
+fn reset_in(step: DriverStep) -> Option<EpName>
+    ensures { result ≡ reset_in step }
+{
+    match step {
+        DriverStep::Reset(name) => Some(name),
+        _ => None,
+    }
+}
+
+/// How many bytes the device of an endpoint took there.
+fn taken_at(bus: &UsbBus, name: &EpName) -> usize
+    ensures { result ≡ taken_at bus.now.bus name.now }
+{
+    match bus.device(name.addr) {
+        Some(device) => device.taken(name).len(),
+        None => 0,
+    }
+}
+
+/// An endpoint is reset, and what was taken there is marked.
+fn reset(bus: &mut UsbBus, marks: &mut Vec<Mark>, name: &EpName)
+    requires { length marks.old.items < vec_capacity marks.old }
+    ensures bus { bus.new ≡ record bus.old { bus = bus_reset name.now bus.old.bus } }
+    ensures marks { marks.new.items ≡ marks.old.items ++ record { name = name.now; taken = taken_at bus.old.bus name.now } ∷ [] }
+    ensures capacity { vec_capacity marks.new ≡ vec_capacity marks.old }
+{
+    let taken = taken_at(bus, name);
+    marks.push_reserved(Mark { name: *name, taken });
+    bus.reset(name);
+}
+
 impl World {
     /// The world of these parts.
     pub(crate) fn of_parts(
         registers: Registers,
         mem: WordMem,
         controller: Controller,
-        driver: Driver,
+        driver: DriverAtWork,
         bus: UsbBus,
+        marks: Vec<Mark>,
     ) -> World
-        requires { IsSound driver mem bus.bus }
-        ensures { result ≡ record { fixed = bus.fixed; world = record { registers = registers; memory = mem; control = controller; driver = driver; bus = bus.bus } } }
+        requires { IsSoundAtWork driver mem bus.bus (length marks.items) (vec_capacity marks) }
+        ensures { result ≡ record {
+          fixed = bus.fixed;
+          work = record {
+            world = record { registers = registers; memory = mem; control = controller; driver = driver.driver; bus = bus.bus };
+            job = driver.job;
+            marks = marks.items;
+          };
+        } }
     {
         World {
             registers,
@@ -90,20 +140,24 @@ impl World {
             controller,
             driver,
             bus,
+            marks,
         }
     }
 
-    /// One step of the driver.
+    /// One step of the driver, with the reset of an endpoint where it is one.
     pub(crate) fn driver_event(&mut self)
-        ensures { self.new ≡ record self.old { world = driver_next self.old.world } }
+        ensures { self.new ≡ record self.old { work = driver_next_at_work self.old.work } }
     {
-        self.driver.step(&mut self.registers, &mut self.mem);
+        let step = self.driver.step(&mut self.registers, &mut self.mem);
+        if let Some(name) = reset_in(step) {
+            reset(&mut self.bus, &mut self.marks, &name);
+        }
     }
 
     /// One step of the controller.
     pub(crate) fn controller_event(&mut self) -> HcStep
-        ensures kind { result ≡ kind_next self.old.world }
-        ensures world { self.new ≡ record self.old { world = controller_next self.old.fixed self.old.world } }
+        ensures kind { result ≡ kind_next self.old.work.world }
+        ensures work { self.new ≡ record self.old { work = next_at_work self.old.fixed self.old.work Event.C } }
     {
         self.controller
             .step(&mut self.registers, &mut self.mem, &mut self.bus)
@@ -111,7 +165,7 @@ impl World {
 
     /// Makes one event: one step of the driver, or one of the controller.
     pub fn event(&mut self, event: Event)
-        ensures { self.new ≡ record self.old { world = next self.old.fixed self.old.world event } }
+        ensures { self.new ≡ record self.old { work = next_at_work self.old.fixed self.old.work event } }
     {
         match event {
             Event::D => self.driver_event(),
@@ -123,9 +177,9 @@ impl World {
 
     /// Offers the command on this line of the script to the driver; a refusal becomes a line of the report.
     pub fn offer(&mut self, line: u32, cmd: &Cmd)
-        requires room { IsOffered self.old.world.driver.room cmd.now }
-        requires report { 1 ≤ self.old.world.driver.room.reports }
-        ensures { self.new ≡ record self.old { world = commanded self.old.world line cmd.now } }
+        requires room { IsOfferedAny (room_in self.old.work) cmd.now }
+        requires report { 1 ≤ (room_in self.old.work).reports }
+        ensures { self.new ≡ record self.old { work = commanded_at_work self.old.work line cmd.now } }
     {
         if let Err(why) = self.driver.offer(cmd, &mut self.mem) {
             self.driver.refuse(line, name_of(cmd), why);
@@ -134,30 +188,37 @@ impl World {
 
     /// The driver.
     pub fn driver(&self) -> &Driver
-        ensures driver { result.now ≡ self.now.world.driver }
-        ensures stored { AreStored self.now.world.driver.reports (length self.now.world.driver.store) }
-        ensures budgets { KeepsBudgets (account_of self.now.world.driver) }
+        ensures driver { result.now ≡ self.now.work.world.driver }
+        ensures stored { AreStored self.now.work.world.driver.reports (length self.now.work.world.driver.store) }
+        ensures budgets { KeepsBudgets (account_of self.now.work.world.driver) }
     {
-        &self.driver
+        self.driver.driver()
+    }
+
+    /// What endpoints had taken as they were reset, in the order of the resets.
+    pub fn marks(&self) -> &[Mark]
+        ensures { result.now ≡ self.now.work.marks }
+    {
+        self.marks.as_slice()
     }
 
     /// The words.
     pub fn mem(&self) -> &WordMem
-        ensures { result.now ≡ self.now.world.memory }
+        ensures { result.now ≡ self.now.work.world.memory }
     {
         &self.mem
     }
 
     /// The registers.
     pub fn registers(&self) -> &Registers
-        ensures { result.now ≡ self.now.world.registers }
+        ensures { result.now ≡ self.now.work.world.registers }
     {
         &self.registers
     }
 
     /// The controller.
     pub fn controller(&self) -> &Controller
-        ensures { result.now ≡ self.now.world.control }
+        ensures { result.now ≡ self.now.work.world.control }
     {
         &self.controller
     }
@@ -171,7 +232,7 @@ impl World {
 
     /// The device with this address; None exactly where there is none.
     pub fn device(&self, addr: DevAddr) -> Option<&Device>
-        ensures device { option_copied result ≡ find (λ d. d.address == addr) self.now.world.bus.devices }
+        ensures device { option_copied result ≡ find (λ d. d.address == addr) self.now.work.world.bus.devices }
         ensures few { (name : Named) → IfSome result (λ d. length (taken_of d.now name) < 2 ^ 32) }
     {
         self.bus.device(addr)
@@ -179,7 +240,7 @@ impl World {
 
     /// The hub with this address; None exactly where there is none.
     pub fn hub(&self, addr: DevAddr) -> Option<&Hub>
-        ensures { option_copied result ≡ find (λ h. h.address == addr) self.now.world.bus.hubs }
+        ensures { option_copied result ≡ find (λ h. h.address == addr) self.now.work.world.bus.hubs }
     {
         self.bus.hub(addr)
     }

@@ -69,7 +69,7 @@ fn sum_done(reports: &[Report]) -> u128
 
 /// How much waits at an endpoint that hasn't ended.
 fn waiting_at(world: &World, seat: &Seat) -> u32
-    ensures { result ≡ waiting_at world.now.world.driver seat.now }
+    ensures { result ≡ waiting_at world.now.work.world.driver seat.now }
 {
     if world.driver().ended(&seat.name).is_some() {
         return 0;
@@ -79,7 +79,7 @@ fn waiting_at(world: &World, seat: &Seat) -> u32
 
 /// How much waits at these endpoints.
 fn sum_waiting(world: &World, seats: &[Seat]) -> u128
-    ensures { result ≡ sum_by (waiting_at world.now.world.driver) seats.now }
+    ensures { result ≡ sum_by (waiting_at world.now.work.world.driver) seats.now }
 {
     let mut pending: u128 = 0;
     for seat in seats {
@@ -90,7 +90,7 @@ fn sum_waiting(world: &World, seats: &[Seat]) -> u128
 
 /// What the report of a world counts. It takes no memory.
 pub fn summary_of(world: &World) -> Summary
-    ensures { result ≡ summary_of world.now.fixed world.now.world }
+    ensures { result ≡ summary_of world.now.fixed world.now.work.world }
 {
     let reports = world.driver().reports();
     Summary {

@@ -14,4 +14,4 @@ few_if None ds p name h e = tt
 few_if (Some d) ds p name h e = found_short ds p d.now name h (sym e)
 
 pub returns-clause-few : goal.returns-clause-few
-returns-clause-few c = λ name. few_if c.device.result c.self.inside.bus.bus.devices (λ d. d.address == c.args.addr) name c.self.invariant.roomy c.device.ensures
+returns-clause-few c = λ name. few_if c.device.result c.self.inside.bus.bus.devices (λ d. d.address == c.args.addr) name c.self.invariant.sound.roomy c.device.ensures

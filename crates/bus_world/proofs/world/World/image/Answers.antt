@@ -27,10 +27,10 @@ fields frindex list_base async_at words m e fit l a = record {
 
 pub returns-clause-aligned : goal.returns-clause-aligned
 returns-clause-aligned c =
-    aligned c.frame_index.result c.periodic_list_base.result c.async_list_address.result c.of.result c.args.self.now.world.memory (c.of.ensures ∙ c.in_ok-words.ensures.words)
+    aligned c.frame_index.result c.periodic_list_base.result c.async_list_address.result c.of.result c.args.self.now.work.world.memory (c.of.ensures ∙ c.in_ok-words.ensures.words)
     c.copied_words.ensures.shape c.frame_index.ensures.bound c.periodic_list_base.ensures.aligned c.async_list_address.ensures.aligned
 
 pub returns-clause-fields : goal.returns-clause-fields
 returns-clause-fields c =
-    fields c.frame_index.result c.periodic_list_base.result c.async_list_address.result c.of.result c.args.self.now.world.memory (c.of.ensures ∙ c.in_ok-words.ensures.words)
+    fields c.frame_index.result c.periodic_list_base.result c.async_list_address.result c.of.result c.args.self.now.work.world.memory (c.of.ensures ∙ c.in_ok-words.ensures.words)
     c.copied_words.ensures.fits (omega arith) (omega arith)

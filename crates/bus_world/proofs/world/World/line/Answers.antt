@@ -1,4 +1,5 @@
-use Rattle.bus_world.proofs.Ways.{command_line_offers, command_line_done, plug_line_done, unplug_line_done, command_line_room}
+use Rattle.bus_world.specs.AtWork.{room_in}
+use Rattle.bus_world.proofs.WaysAtWork.{command_line_offers, command_line_done, plug_line_done, unplug_line_done, command_line_room}
 use Rattle.bus_world.proofs.world.World.line.Goals as goal
 
 pub returns-in-Command-clause-done : goal.returns-in-Command-clause-done
@@ -15,4 +16,4 @@ returns-in-Command-clause-room_left c =
     command_line_room c.args.self.now c.offer.new.self c.args.line.now c.args.number c.in-Command.cmd c.in-Command.is c.offer.ensures c.requires.fits
 
 pub offer-requires-clause-room : goal.offer-requires-clause-room
-offer-requires-clause-room c = command_line_offers c.args.self.now.world.driver.room c.args.line.now c.in-Command.cmd c.in-Command.is c.requires.fits c.requires.room
+offer-requires-clause-room c = command_line_offers (room_in c.args.self.now.work) c.args.line.now c.in-Command.cmd c.in-Command.is c.requires.fits c.requires.room

@@ -1,5 +1,5 @@
 use Rattle.std.proofs.Common.{◌+◌, drop, refl, arith}
-use Rattle.bus_world.proofs.Ways.{way_begins, way_at, way_more, way_overlong}
+use Rattle.bus_world.proofs.WaysAtWork.{way_begins, way_at, way_more, way_overlong}
 use Rattle.bus_world.proofs.world.World.lines.Goals as goal
 
 pub loop-entry-init : goal.loop-entry-init

@@ -1,5 +1,5 @@
 use Rattle.std.proofs.Common.{drop}
-use Rattle.bus_world.proofs.Ways.{IsUnderWay}
+use Rattle.bus_world.proofs.WaysAtWork.{IsUnderWay}
 use Rattle.bus_world.proofs.world.World.lines.Given as goal
 
 abbrev pub invariant-loop-entry : goal.invariant-loop-entry

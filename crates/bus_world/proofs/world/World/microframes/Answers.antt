@@ -1,6 +1,6 @@
 use Rattle.std.proofs.Common.{◌∙◌, ◌-◌, ◌+◌, refl, arith}
 use Rattle.bus_world.specs.Orders.{Microframes}
-use Rattle.bus_world.proofs.Ticks.{gone_begins, microframe_more, microframes_done, microframes_overlong}
+use Rattle.bus_world.proofs.TicksAtWork.{gone_begins, microframe_more, microframes_done, microframes_overlong}
 use Rattle.bus_world.proofs.world.World.microframes.Goals as goal
 
 pub loop-microframe-init : goal.loop-microframe-init
