@@ -17,10 +17,13 @@ CALL = CRATES / "ehci_cli/src/program.rt"
 SAYS = {
     "output": "Where the bytes of the input are known, what is written is what the form defines of them: for `run` and `image` the report or the memory after the whole run "
               "of the script that they spell, for `check` and `dump` its text, else the first fault. The run is that of the table machine (driver, controller, hubs, devices), "
-              "event by event.",
+              "event by event, with the driver's job where a script clears halts. Where it clears none every line was carried out, and there is no job at the end; else the "
+              "run may have stopped in a microframe that hadn't ended after 67,108,864 turns.",
+    "plain": "At each moment of the run of a script that clears no halt, which is each of version 1 and of version 2 each without a `clear` line, the driver is at no job, no endpoint was reset, and the world is that of the table machine "
+             "whose driver knows no jobs: so what the clauses below say of its moments is said of what is run.",
     "microframes": "Each microframe that a script lets pass ends after at most 17,957,823 events of the controller, each followed by one of the driver; so each line of the script is carried "
                    "out, and the report that `output` speaks of stands after the whole run.",
-    "budgets": "At each moment what is placed keeps every budget of bus time; and the open of a periodic endpoint that passes the checks before is refused for want of a "
+    "budgets": "At each moment of each script, clears and all, what is placed keeps every budget of bus time; and where no clear is under way, the open of a periodic endpoint that passes the checks before is refused for want of a "
                "placement exactly where each placement that it may have, in version 2 of a script one that leaves time for stuffed bits, breaks a budget beside what is placed.",
     "lent": "At each moment the controller's next event reads and writes words of Lent blocks alone, the blocks that the driver's next event gives back are Free right after that event, and each word of a Free block is 0.",
     "owned": "At each moment the Lent blocks are those that the driver still needs, each run of blocks with one owner, but for those that the unfinished command has still to lend.",
@@ -120,7 +123,7 @@ Written by docs/theorem.py; the checks of `.ci/run` compare it with the sources.
 
 The theorem of this repository is the contract of one function, `ehci` in crates/ehci_cli/src/program.rt, which the program `ehci` calls with its words, standard input and standard output. A clause holds for every input, every list of lost packets and every order of steps.
 
-Most clauses speak of **the table machine** over the script that the input spells, and for `load` over the one that is drawn from its number: contents of driver, controller, registers, memory, hubs and devices, and the row that each event is. Clause `output` ties it to what is printed: the report is that of the machine's whole run. Each clause below is given in its own words, then in English, then come the definitions beside the machine that it reaches, which one has to read to know what it says. "At each moment" is: before the run, and after each of its events and commands.
+Most clauses speak of **the table machine** over the script that the input spells, and for `load` over the one that is drawn from its number: contents of driver, controller, registers, memory, hubs and devices, and the row that each event is. Clause `output` ties it to what is printed: the report is that of the machine's run. Clauses of `OfEachPlainScript` speak of scripts that clear no halt, by the run of a driver without jobs; clause `plain` says that this is their run. Each clause below is given in its own words, then in English, then come the definitions beside the machine that it reaches, which one has to read to know what it says. "At each moment" is: before the run, and after each of its events and commands.
 
 The calls below keep the tables as their contracts: `World::offer`, `World::event` and `World::run` of bus_world say which row each command and event is, and nothing of what then holds along a run. What holds there are clauses of `ehci` alone, so that no part of the machine, and no program over it, has to wait for the proofs of laws. A program of one's own over `World` gets them by the same laws: each takes a script, and speaks of the moments of its run.
 

@@ -58,15 +58,17 @@ FORMS = {
     "iso": [EP[:2] + [word("in"), COUNT], EP[:2] + [word("out"), COUNT, number("number of bytes", 0, 3072), SEED]],
     "order": [[word(it), number("number of " + ("microframes" if it == "m" else "steps"), 0, ANY)] for it in "dcm"],
 }
-WORLD = ("hub", "dev", "ep", "stuff", "reply", "fate", "hold")
+WORLD = ("hub", "dev", "ep", "stuff", "reply", "epoch", "fate", "hold")
 # what version 2 has beside that
 SECOND = {
     "hub": FORMS["hub"] + [FORMS["hub"][0] + [word("multi")]],
     "stuff": [EP + [number("number of stuffed bytes in 36", 0, 6)]],
+    "epoch": [EP],
+    "clear": [EP],
 }
 # what version 2 names and isn't built (docs/FORMATS.md)
-PLANNED = ("frames", "park", "epoch", "root", "classic", "disk", "clear", "plug", "unplug", "reset", "give", "read", "write", "revive")
-ACTIONS = ("open", "cancel", "get", "put", "control", "iso", "order")
+PLANNED = ("frames", "park", "root", "classic", "disk", "plug", "unplug", "reset", "give", "read", "write", "revive")
+ACTIONS = ("open", "cancel", "clear", "get", "put", "control", "iso", "order")
 SIZES = {
     "control": {"high": (64,), "full": (8, 16, 32, 64), "low": (8,)},
     "bulk": {"high": (512,), "full": (8, 16, 32, 64), "low": ()},
@@ -208,7 +210,7 @@ def why_range(draft, words):
         if slot[0] == "number" and not slot[2] <= int(text) <= slot[3]:
             yield at, f"{text} is no {slot[1]}: {slot[2]}" + ("" if slot[2] == slot[3] else f" to {slot[3]}")
             return
-    rule = {"mem": mem_range, "ep": ep_range, "stuff": stuff_range, "reply": reply_range, "hold": hold_range, "control": control_range, "iso": iso_range}
+    rule = {"mem": mem_range, "ep": ep_range, "stuff": stuff_range, "epoch": epoch_range, "reply": reply_range, "hold": hold_range, "control": control_range, "iso": iso_range}
     yield from rule.get(words[0], by_range)(draft, words)
 
 
@@ -260,6 +262,10 @@ def reply_range(draft, words):
 def stuff_range(draft, words):
     where = "the control endpoint of a hub" if int(words[1]) in draft.hubs else "of a high-speed device"
     yield 1, f"{shown(name_of(words))} is {where}, and stuffed bits count behind a hub alone"
+
+
+def epoch_range(draft, words):
+    yield 1, f"{shown(name_of(words))} is no bulk or interrupt endpoint, and epochs are of these alone"
 
 
 def hold_range(draft, words):
@@ -333,6 +339,7 @@ def why_limit(draft, words):
         "ep": "a script has at most 256 endpoints",
         "fate": "a script has at most 4096 fates",
         "hold": "a script has at most 256 holds",
+        "epoch": "an endpoint has at most 16 lines `epoch`",
         "reply": "the replies, puts and requests of a script have at most 4194304 bytes",
         "order": "a script orders at most 16384 microframes, 1000000 steps in a line and 4000000 in all",
     }
@@ -463,6 +470,10 @@ def refusal(lines, said, schedule, refused, line):
         return f"`{words[0]}` doesn't suit the kind of {shown(name)}" if at else f"no open of {shown(name)} was accepted before"
     if cause == "closed":
         return f"{shown(name)} has ended: {CLOSED.get(why.split(' ')[1], why)}{ends(lines, said, name, line)}"
+    if cause == "not-ended":
+        return f"{shown(name)} hasn't ended, so it has no halt to clear"
+    if cause == "hub-closed":
+        return f"the control endpoint of the hub of {shown(name)} isn't open, has ended, or has a request that isn't reported"
     if cause == "already-open":
         return f"{shown(name)} is open since line {accepted_before(lines, refused, line, f'open {name[0]} {name[1]} {name[2]}')[0]}"
     if cause == "too-long":

@@ -4,7 +4,7 @@ use Rattle.std.specs.Prelude.{codes}
 use Rattle.std.specs.Io.KnownBytes.{Keeps}
 use Rattle.usb_base.specs.Outside.{Rose}
 use Rattle.script_types.specs.declared.scripts.Script.{Script}
-use Rattle.bus_world.specs.World.{Standing}
+use Rattle.bus_world.specs.AtWork.{StandingAtWork}
 use Rattle.app_ends.specs.declared.status.Status.TheVariants.{Refused, WriteFault, Memory}
 use Rattle.app_forms.specs.Finished.{IsFinished, whole, lacks_memory, FinishesForm}
 use Rattle.app_forms.specs.Samples.{calm, failing}
@@ -15,7 +15,7 @@ stays_calm : Rose 0 0 → ⊥
 stays_calm (inl h) = absurd (omega (arith, h))
 stays_calm (inr h) = absurd (omega (arith, h))
 
-module _ (runs : Script → Standing → Type 0) where
+module _ (runs : Script → StandingAtWork → Type 0) where
   no_refusal : (form : Form) (input : List ℕ) (old new : Option (List ℕ)) → IsFinished runs form input old new Refused → ⊥
   no_refusal form input old new h = elim h [ ]
 

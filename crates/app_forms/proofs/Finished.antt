@@ -4,7 +4,7 @@ use Rattle.std.proofs.lemmas.Bool.{false≢true}
 use Rattle.usb_base.specs.Outside.{Rose}
 use Rattle.usb_base.proofs.Known.{rose_by_one}
 use Rattle.script_types.specs.declared.scripts.Script.{Script}
-use Rattle.bus_world.specs.World.{Standing}
+use Rattle.bus_world.specs.AtWork.{StandingAtWork}
 use Rattle.app_ends.specs.Ends.{IsFault, IsWriteFault}
 use Rattle.app_ends.specs.Input.{input_of}
 use Rattle.app_ends.specs.declared.status.Status.{Status}
@@ -19,7 +19,7 @@ use Rattle.app_forms.proofs.Words.{forms_once}
 none_some : {A : Type 0} (x : A) → ◌≡◌ {A = Option A} None (Some x) → ⊥
 none_some x is = cc
 
-module _ (runs : Script → Standing → Type 0) where
+module _ (runs : Script → StandingAtWork → Type 0) where
   -- what is sound isn't refused
   unrefused : (form : Form) (input bytes : List ℕ) → IsSound form input → Gives runs form input Refused bytes → ⊥
   unrefused Run input bytes sound r = none_some _ (sym sound ∙ r.first)

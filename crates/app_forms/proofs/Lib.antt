@@ -1,6 +1,7 @@
 pub mod Checked
 pub mod Ended
 pub mod Finished
+pub mod FirstPlain
 pub mod Loads
 pub mod Runs
 pub mod Whole

@@ -4,7 +4,7 @@ use Rattle.usb_base.specs.Outside.{AppendsPrefix}
 use Rattle.script_types.specs.declared.scripts.Script.{Script}
 use Rattle.script_text.specs.Faults.{Spells}
 use Rattle.script_load.specs.Load.{load_text}
-use Rattle.bus_world.specs.World.{Standing}
+use Rattle.bus_world.specs.AtWork.{StandingAtWork}
 use Rattle.app_ends.specs.declared.status.Status.{Status}
 use Rattle.app_ends.specs.declared.status.Status.TheVariants.{Ok, Words, Refused, ReadFault, WriteFault, Memory}
 use Rattle.app_forms.specs.Form.{AreWordsOf}
@@ -12,8 +12,8 @@ use Rattle.app_forms.specs.Output.{RunOf, ReportsRun, GivesImage, SummarizesLoad
 use Rattle.app_forms.specs.declared.form.Form.{Form}
 use Rattle.app_forms.specs.declared.form.Form.TheVariants.{Run, Image, Check, Dump, Load}
 
-module _ (runs whole : Script → Standing → Type 0) (follows : (text : List ℕ) (s : Script) (w : Standing) → Spells text s → runs s w → whole s w) where
-  run_follows : (input : List ℕ) (w : Standing) → RunOf runs input w → RunOf whole input w
+module _ (runs whole : Script → StandingAtWork → Type 0) (follows : (text : List ℕ) (s : Script) (w : StandingAtWork) → Spells text s → runs s w → whole s w) where
+  run_follows : (input : List ℕ) (w : StandingAtWork) → RunOf runs input w → RunOf whole input w
   run_follows input w r = record { script = r.script; spelled = r.spelled; ran = follows input r.script w r.spelled r.ran }
 
   report_follows : (input bytes : List ℕ) → ReportsRun runs input bytes → ReportsRun whole input bytes

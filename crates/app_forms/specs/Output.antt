@@ -12,8 +12,9 @@ use Rattle.report_text.specs.ReportText.{line_text}
 use Rattle.script_types.specs.declared.scripts.Script.{Script}
 use Rattle.script_forms.specs.declared.causes.TextWhy.{TextWhy}
 use Rattle.script_text.specs.Faults.{Spells, first_fault, fault_line, check_text, is_image}
-use Rattle.bus_world.specs.World.{Standing}
-use Rattle.bus_world.specs.Closing.{world_text, world_image}
+use Rattle.bus_world.specs.AtWork.{StandingAtWork}
+use Rattle.bus_world.specs.Closing.{world_image}
+use Rattle.bus_world.specs.ClosingAtWork.{text_at_work}
 use Rattle.script_load.specs.Load.{load_text}
 use Rattle.report_load.specs.Summary.{summary_of, summary_line}
 use Rattle.image_codec.specs.Image.{image_bytes, image_fault, image_of}
@@ -30,28 +31,28 @@ use Rattle.app_ends.specs.declared.status.Status.TheVariants.{Ok, Words, Refused
 -- ---- scripts
 
 -- The input spells a script, and this is a world after its run.
-pub record RunOf (runs : Script → Standing → Type 0) (input : List ℕ) (w : Standing) : Type 0 where
+pub record RunOf (runs : Script → StandingAtWork → Type 0) (input : List ℕ) (w : StandingAtWork) : Type 0 where
   pub script : Script
   pub spelled : Spells input script
   pub ran : runs script w
 
 -- The bytes are the report of a world after the run of the script that the input spells.
-pub record ReportsRun (runs : Script → Standing → Type 0) (input bytes : List ℕ) : Type 0 where
-  pub world : Standing
+pub record ReportsRun (runs : Script → StandingAtWork → Type 0) (input bytes : List ℕ) : Type 0 where
+  pub world : StandingAtWork
   pub ran : RunOf runs input world
-  pub told : bytes ≡ world_text world.fixed world.world
+  pub told : bytes ≡ text_at_work world.fixed world.work
 
 -- The bytes are the image of memory after that run.
-pub record GivesImage (runs : Script → Standing → Type 0) (input bytes : List ℕ) : Type 0 where
-  pub world : Standing
+pub record GivesImage (runs : Script → StandingAtWork → Type 0) (input bytes : List ℕ) : Type 0 where
+  pub world : StandingAtWork
   pub ran : RunOf runs input world
-  pub told : bytes ≡ image_bytes (world_image world.world)
+  pub told : bytes ≡ image_bytes (world_image world.work.world)
 
 -- The bytes are the line of what the report counts after the run of the load script of n.
-pub record SummarizesLoad (runs : Script → Standing → Type 0) (n : ℕ) (bytes : List ℕ) : Type 0 where
-  pub world : Standing
+pub record SummarizesLoad (runs : Script → StandingAtWork → Type 0) (n : ℕ) (bytes : List ℕ) : Type 0 where
+  pub world : StandingAtWork
   pub ran : RunOf runs (load_text n) world
-  pub told : bytes ≡ summary_line n (summary_of world.fixed world.world)
+  pub told : bytes ≡ summary_line n (summary_of world.fixed world.work.world)
 
 -- The input spells no script, and the line names its first fault.
 pub record RefusesScript (input bytes : List ℕ) : Type 0 where
@@ -95,7 +96,7 @@ pub record Checks (input : List ℕ) (sound : Bool) (bytes : List ℕ) : Type 0 
 -- ---- the program
 
 -- the whole output of a form on an input: an end with its bytes; `load` has the same on every input
-abbrev pub Gives : (Script → Standing → Type 0) → Form → List ℕ → Status → List ℕ → Type 0
+abbrev pub Gives : (Script → StandingAtWork → Type 0) → Form → List ℕ → Status → List ℕ → Type 0
 Gives runs Run input Ok bytes = ReportsRun runs input bytes
 Gives runs Run input Refused bytes = RefusesScript input bytes
 Gives runs Image input Ok bytes = GivesImage runs input bytes
@@ -112,12 +113,12 @@ Gives runs form input WriteFault bytes = ⊥
 Gives runs form input Memory bytes = ⊥
 
 -- all of an output was written
-abbrev pub WritesAll : (Script → Standing → Type 0) → Form → List ℕ → Status → Option (List ℕ) → Option (List ℕ) → Type 0
+abbrev pub WritesAll : (Script → StandingAtWork → Type 0) → Form → List ℕ → Status → Option (List ℕ) → Option (List ℕ) → Type 0
 WritesAll runs form input status old new = (bytes : List ℕ) × Gives runs form input status bytes × Appends old new bytes
 
 -- How what is written follows from how the program ended: the whole output where it is done or refuses the input, a front
 -- part of it where the sink failed, and nothing else.
-abbrev pub IsAnswer : (Script → Standing → Type 0) → Form → Status → List ℕ → Option (List ℕ) → Option (List ℕ) → Type 0
+abbrev pub IsAnswer : (Script → StandingAtWork → Type 0) → Form → Status → List ℕ → Option (List ℕ) → Option (List ℕ) → Type 0
 IsAnswer runs form Ok input old new = WritesAll runs form input Ok old new
 IsAnswer runs form Refused input old new = WritesAll runs form input Refused old new
 IsAnswer runs form WriteFault input old new = (status : Status) × (bytes : List ℕ) × Gives runs form input status bytes × AppendsPrefix old new bytes
@@ -126,7 +127,7 @@ IsAnswer runs form Memory input old new = Keeps old new
 IsAnswer runs form Words input old new = Keeps old new
 
 -- The answer of the program to these words: that of the form that they have.
-abbrev pub IsProgram : (Script → Standing → Type 0) → List (List ℕ) → Status → List ℕ → Option (List ℕ) → Option (List ℕ) → Type 0
+abbrev pub IsProgram : (Script → StandingAtWork → Type 0) → List (List ℕ) → Status → List ℕ → Option (List ℕ) → Option (List ℕ) → Type 0
 IsProgram runs words Words input old new = Keeps old new
 IsProgram runs words status input old new = (form : Form) × AreWordsOf words form × IsAnswer runs form status input old new
 
@@ -140,7 +141,7 @@ IsLoadEnd Refused = ⊥
 IsLoadEnd ReadFault = ⊥
 
 -- The answer of the program to the words of `load`, whatever is known of what it could read.
-abbrev pub IsLoad : (Script → Standing → Type 0) → List (List ℕ) → Status → Option (List ℕ) → Option (List ℕ) → Type 0
+abbrev pub IsLoad : (Script → StandingAtWork → Type 0) → List (List ℕ) → Status → Option (List ℕ) → Option (List ℕ) → Type 0
 IsLoad runs words status old new =
     (n : ℕ) (input : List ℕ) → AreWordsOf words (Load n) → IsLoadEnd status × IsAnswer runs (Load n) status input old new
 

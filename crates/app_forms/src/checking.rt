@@ -3,7 +3,7 @@ ghost use Rattle.image_codec.specs.Image.{image_fault};
 ghost use Rattle.script_text.specs.Faults.{first_fault, is_image};
 ghost use Rattle.app_ends.specs.Ends.{IsWriteFault, WritesNothing};
 ghost use Rattle.app_forms.specs.Output.{IsAnswer};
-ghost use Rattle.bus_world.specs.Runs.{IsRunOf};
+ghost use Rattle.bus_world.specs.RunsAtWork.{IsRunOfAtWork};
 
 use crate::form::Form;
 use crate::refusing::{refuse_image, refuse_script};
@@ -17,7 +17,7 @@ use usb_base::{Sink, write_all};
 fn accept_image<K: Sink>(input: &[u8], sink: &mut K) -> Status
     requires image { is_image input.now ≡ true }
     requires sound { image_fault input.now ≡ None }
-    ensures answer { IsAnswer IsRunOf Form.Check result input.now (K.written sink.old) (K.written sink.new) }
+    ensures answer { IsAnswer IsRunOfAtWork Form.Check result input.now (K.written sink.old) (K.written sink.new) }
     ensures end { (result ≢ Status.Words) × (result ≢ Status.ReadFault) }
     ensures nothing { WritesNothing result → sink.new ≡ sink.old }
     ensures fault { IsWriteFault result (K.faults sink.old) (K.faults sink.new) }
@@ -31,7 +31,7 @@ fn accept_image<K: Sink>(input: &[u8], sink: &mut K) -> Status
 /// Checks an input that begins as an image.
 fn check_image<K: Sink>(alloc: Global, input: &[u8], sink: &mut K) -> Status
     requires { is_image input.now ≡ true }
-    ensures answer { IsAnswer IsRunOf Form.Check result input.now (K.written sink.old) (K.written sink.new) }
+    ensures answer { IsAnswer IsRunOfAtWork Form.Check result input.now (K.written sink.old) (K.written sink.new) }
     ensures end { (result ≢ Status.Words) × (result ≢ Status.ReadFault) }
     ensures nothing { WritesNothing result → sink.new ≡ sink.old }
     ensures fault { IsWriteFault result (K.faults sink.old) (K.faults sink.new) }
@@ -49,7 +49,7 @@ fn check_image<K: Sink>(alloc: Global, input: &[u8], sink: &mut K) -> Status
 fn accept_script<K: Sink>(input: &[u8], sink: &mut K) -> Status
     requires text { is_image input.now ≡ false }
     requires sound { first_fault input.now ≡ None }
-    ensures answer { IsAnswer IsRunOf Form.Check result input.now (K.written sink.old) (K.written sink.new) }
+    ensures answer { IsAnswer IsRunOfAtWork Form.Check result input.now (K.written sink.old) (K.written sink.new) }
     ensures end { (result ≢ Status.Words) × (result ≢ Status.ReadFault) }
     ensures nothing { WritesNothing result → sink.new ≡ sink.old }
     ensures fault { IsWriteFault result (K.faults sink.old) (K.faults sink.new) }
@@ -63,7 +63,7 @@ fn accept_script<K: Sink>(input: &[u8], sink: &mut K) -> Status
 /// Checks an input that is a text.
 fn check_script<K: Sink>(alloc: Global, input: &[u8], sink: &mut K) -> Status
     requires { is_image input.now ≡ false }
-    ensures answer { IsAnswer IsRunOf Form.Check result input.now (K.written sink.old) (K.written sink.new) }
+    ensures answer { IsAnswer IsRunOfAtWork Form.Check result input.now (K.written sink.old) (K.written sink.new) }
     ensures end { (result ≢ Status.Words) × (result ≢ Status.ReadFault) }
     ensures nothing { WritesNothing result → sink.new ≡ sink.old }
     ensures fault { IsWriteFault result (K.faults sink.old) (K.faults sink.new) }
@@ -77,7 +77,7 @@ fn check_script<K: Sink>(alloc: Global, input: &[u8], sink: &mut K) -> Status
 
 /// The form `check`: that the input is a script or an image, or what is wrong with it first.
 pub fn check<K: Sink>(alloc: Global, input: &[u8], sink: &mut K) -> Status
-    ensures answer { IsAnswer IsRunOf Form.Check result input.now (K.written sink.old) (K.written sink.new) }
+    ensures answer { IsAnswer IsRunOfAtWork Form.Check result input.now (K.written sink.old) (K.written sink.new) }
     ensures end { (result ≢ Status.Words) × (result ≢ Status.ReadFault) }
     ensures nothing { WritesNothing result → sink.new ≡ sink.old }
     ensures fault { IsWriteFault result (K.faults sink.old) (K.faults sink.new) }

@@ -2,7 +2,7 @@ ghost use Rattle.std.specs.Prelude.{◌≡◌, ◌≢◌, None};
 ghost use Rattle.image_codec.specs.Image.{image_fault, image_of, IsAligned};
 ghost use Rattle.app_ends.specs.Ends.{IsWriteFault, WritesNothing};
 ghost use Rattle.app_forms.specs.Output.{IsAnswer};
-ghost use Rattle.bus_world.specs.Runs.{IsRunOf};
+ghost use Rattle.bus_world.specs.RunsAtWork.{IsRunOfAtWork};
 
 use crate::form::Form;
 use crate::refusing::refuse_image;
@@ -16,7 +16,7 @@ fn show_image<K: Sink>(alloc: Global, input: &[u8], image: &Image, sink: &mut K)
     requires sound { image_fault input.now ≡ None }
     requires image { image.now ≡ image_of input.now }
     requires aligned { IsAligned image.now }
-    ensures answer { IsAnswer IsRunOf Form.Dump result input.now (K.written sink.old) (K.written sink.new) }
+    ensures answer { IsAnswer IsRunOfAtWork Form.Dump result input.now (K.written sink.old) (K.written sink.new) }
     ensures end { (result ≢ Status.Words) × (result ≢ Status.ReadFault) × (result ≢ Status.Refused) }
     ensures nothing { WritesNothing result → sink.new ≡ sink.old }
     ensures fault { IsWriteFault result (K.faults sink.old) (K.faults sink.new) }
@@ -31,7 +31,7 @@ fn show_image<K: Sink>(alloc: Global, input: &[u8], image: &Image, sink: &mut K)
 /// The form `dump`: the text that shows the image that the input is, or its refusal. All memory is taken before the
 /// first write.
 pub fn dump<K: Sink>(alloc: Global, input: &[u8], sink: &mut K) -> Status
-    ensures answer { IsAnswer IsRunOf Form.Dump result input.now (K.written sink.old) (K.written sink.new) }
+    ensures answer { IsAnswer IsRunOfAtWork Form.Dump result input.now (K.written sink.old) (K.written sink.new) }
     ensures end { (result ≢ Status.Words) × (result ≢ Status.ReadFault) }
     ensures nothing { WritesNothing result → sink.new ≡ sink.old }
     ensures fault { IsWriteFault result (K.faults sink.old) (K.faults sink.new) }

@@ -4,7 +4,7 @@ ghost use Rattle.script_fits.specs.Fits.{IsFit};
 ghost use Rattle.script_load.specs.Load.{load_text};
 ghost use Rattle.app_ends.specs.Ends.{IsWriteFault, WritesNothing};
 ghost use Rattle.app_forms.specs.Output.{IsAnswer, IsLoadEnd, RunOf};
-ghost use Rattle.bus_world.specs.Runs.{IsRunOf};
+ghost use Rattle.bus_world.specs.RunsAtWork.{IsRunOfAtWork};
 
 use crate::form::Form;
 use crate::running::world_of;
@@ -20,8 +20,8 @@ use usb_base::Sink;
 
 /// Prints what the report of a world counts.
 fn summarize<K: Sink>(n: u32, world: &World, sink: &mut K) -> Status
-    requires { RunOf IsRunOf (load_text n) world.now }
-    ensures answer { (input : List ℕ) → IsAnswer IsRunOf (Form.Load n) result input (K.written sink.old) (K.written sink.new) }
+    requires { RunOf IsRunOfAtWork (load_text n) world.now }
+    ensures answer { (input : List ℕ) → IsAnswer IsRunOfAtWork (Form.Load n) result input (K.written sink.old) (K.written sink.new) }
     ensures end { (result ≢ Status.Words) × (result ≢ Status.ReadFault) }
     ensures load { IsLoadEnd result }
     ensures nothing { WritesNothing result → sink.new ≡ sink.old }
@@ -37,7 +37,7 @@ fn summarize<K: Sink>(n: u32, world: &World, sink: &mut K) -> Status
 fn load_world<K: Sink>(alloc: Global, n: u32, script: &Script, sink: &mut K) -> Status
     requires spelled { Spells (load_text n) script.now }
     requires fits { IsFit script.now }
-    ensures answer { (input : List ℕ) → IsAnswer IsRunOf (Form.Load n) result input (K.written sink.old) (K.written sink.new) }
+    ensures answer { (input : List ℕ) → IsAnswer IsRunOfAtWork (Form.Load n) result input (K.written sink.old) (K.written sink.new) }
     ensures end { (result ≢ Status.Words) × (result ≢ Status.ReadFault) }
     ensures load { IsLoadEnd result }
     ensures nothing { WritesNothing result → sink.new ≡ sink.old }
@@ -52,7 +52,7 @@ fn load_world<K: Sink>(alloc: Global, n: u32, script: &Script, sink: &mut K) -> 
 /// The form `load`: what the report counts after the run of the load script of n. Nothing is read, and all memory is taken before the
 /// first write.
 pub fn load<K: Sink>(alloc: Global, n: u32, sink: &mut K) -> Status
-    ensures answer { (input : List ℕ) → IsAnswer IsRunOf (Form.Load n) result input (K.written sink.old) (K.written sink.new) }
+    ensures answer { (input : List ℕ) → IsAnswer IsRunOfAtWork (Form.Load n) result input (K.written sink.old) (K.written sink.new) }
     ensures end { (result ≢ Status.Words) × (result ≢ Status.ReadFault) }
     ensures load { IsLoadEnd result }
     ensures nothing { WritesNothing result → sink.new ≡ sink.old }
@@ -68,7 +68,7 @@ pub fn load<K: Sink>(alloc: Global, n: u32, sink: &mut K) -> Status
 /// Reads the text of the load script of a number, which has no fault, runs it and prints what its report counts.
 fn load_script<K: Sink>(alloc: Global, n: u32, text: &[u8], sink: &mut K) -> Status
     requires { text.now ≡ load_text n }
-    ensures answer { (input : List ℕ) → IsAnswer IsRunOf (Form.Load n) result input (K.written sink.old) (K.written sink.new) }
+    ensures answer { (input : List ℕ) → IsAnswer IsRunOfAtWork (Form.Load n) result input (K.written sink.old) (K.written sink.new) }
     ensures end { (result ≢ Status.Words) × (result ≢ Status.ReadFault) }
     ensures load { IsLoadEnd result }
     ensures nothing { WritesNothing result → sink.new ≡ sink.old }

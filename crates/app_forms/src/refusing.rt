@@ -3,7 +3,7 @@ ghost use Rattle.image_codec.specs.Image.{image_fault};
 ghost use Rattle.script_text.specs.Faults.{first_fault, is_image};
 ghost use Rattle.app_ends.specs.Ends.{IsWriteFault, WritesNothing};
 ghost use Rattle.app_forms.specs.Output.{IsAnswer};
-ghost use Rattle.bus_world.specs.Runs.{IsRunOf};
+ghost use Rattle.bus_world.specs.RunsAtWork.{IsRunOfAtWork};
 
 use crate::form::Form;
 use app_ends::Status;
@@ -14,9 +14,9 @@ use usb_base::Sink;
 /// Refuses an input that is no script, by the line of its first fault.
 pub fn refuse_script<K: Sink>(input: &[u8], line: u32, why: TextWhy, sink: &mut K) -> Status
     requires { first_fault input.now ≡ Some (line, why) }
-    ensures run { IsAnswer IsRunOf Form.Run result input.now (K.written sink.old) (K.written sink.new) }
-    ensures image { IsAnswer IsRunOf Form.Image result input.now (K.written sink.old) (K.written sink.new) }
-    ensures check { is_image input.now ≡ false → IsAnswer IsRunOf Form.Check result input.now (K.written sink.old) (K.written sink.new) }
+    ensures run { IsAnswer IsRunOfAtWork Form.Run result input.now (K.written sink.old) (K.written sink.new) }
+    ensures image { IsAnswer IsRunOfAtWork Form.Image result input.now (K.written sink.old) (K.written sink.new) }
+    ensures check { is_image input.now ≡ false → IsAnswer IsRunOfAtWork Form.Check result input.now (K.written sink.old) (K.written sink.new) }
     ensures end { (result ≡ Status.Refused) ⊎ (result ≡ Status.WriteFault) }
     ensures nothing { WritesNothing result → sink.new ≡ sink.old }
     ensures fault { IsWriteFault result (K.faults sink.old) (K.faults sink.new) }
@@ -30,8 +30,8 @@ pub fn refuse_script<K: Sink>(input: &[u8], line: u32, why: TextWhy, sink: &mut 
 /// Refuses an input that is no image, by the line of what is wrong with it first.
 pub fn refuse_image<K: Sink>(input: &[u8], refusal: Refusal, sink: &mut K) -> Status
     requires { image_fault input.now ≡ Some refusal }
-    ensures dump { IsAnswer IsRunOf Form.Dump result input.now (K.written sink.old) (K.written sink.new) }
-    ensures check { is_image input.now ≡ true → IsAnswer IsRunOf Form.Check result input.now (K.written sink.old) (K.written sink.new) }
+    ensures dump { IsAnswer IsRunOfAtWork Form.Dump result input.now (K.written sink.old) (K.written sink.new) }
+    ensures check { is_image input.now ≡ true → IsAnswer IsRunOfAtWork Form.Check result input.now (K.written sink.old) (K.written sink.new) }
     ensures end { (result ≡ Status.Refused) ⊎ (result ≡ Status.WriteFault) }
     ensures nothing { WritesNothing result → sink.new ≡ sink.old }
     ensures fault { IsWriteFault result (K.faults sink.old) (K.faults sink.new) }

@@ -1,10 +1,10 @@
 ghost use Rattle.std.specs.Prelude.{◌≡◌, ◌≢◌, IfOk};
 ghost use Rattle.script_text.specs.Faults.{Spells};
 ghost use Rattle.script_fits.specs.Fits.{IsFit};
-ghost use Rattle.bus_world.specs.World.{Standing};
+ghost use Rattle.bus_world.specs.AtWork.{StandingAtWork};
 ghost use Rattle.app_ends.specs.Ends.{IsWriteFault, WritesNothing};
 ghost use Rattle.app_forms.specs.Output.{IsAnswer, RunOf};
-ghost use Rattle.bus_world.specs.Runs.{IsRunOf};
+ghost use Rattle.bus_world.specs.RunsAtWork.{IsRunOfAtWork};
 
 use crate::form::Form;
 use crate::refusing::refuse_script;
@@ -20,7 +20,7 @@ use usb_base::{Memory, Sink};
 /// The world of a script after its action lines.
 pub(crate) fn world_of(alloc: Global, script: &Script) -> Result<World, Memory>
     requires { IsFit script.now }
-    ensures { IfOk result (λ w. IsRunOf script.now w) }
+    ensures { IfOk result (λ w. IsRunOfAtWork script.now w) }
 {
     let mut world = World::build(alloc, script)?;
     world.run(script);
@@ -29,8 +29,8 @@ pub(crate) fn world_of(alloc: Global, script: &Script) -> Result<World, Memory>
 
 /// Prints the report of a world.
 fn report<K: Sink>(input: &[u8], world: &World, sink: &mut K) -> Status
-    requires { RunOf IsRunOf input.now world.now }
-    ensures answer { IsAnswer IsRunOf Form.Run result input.now (K.written sink.old) (K.written sink.new) }
+    requires { RunOf IsRunOfAtWork input.now world.now }
+    ensures answer { IsAnswer IsRunOfAtWork Form.Run result input.now (K.written sink.old) (K.written sink.new) }
     ensures end { (result ≢ Status.Words) × (result ≢ Status.ReadFault) }
     ensures nothing { WritesNothing result → sink.new ≡ sink.old }
     ensures fault { IsWriteFault result (K.faults sink.old) (K.faults sink.new) }
@@ -45,7 +45,7 @@ fn report<K: Sink>(input: &[u8], world: &World, sink: &mut K) -> Status
 fn run_script<K: Sink>(alloc: Global, input: &[u8], script: &Script, sink: &mut K) -> Status
     requires spelled { Spells input.now script.now }
     requires fits { IsFit script.now }
-    ensures answer { IsAnswer IsRunOf Form.Run result input.now (K.written sink.old) (K.written sink.new) }
+    ensures answer { IsAnswer IsRunOfAtWork Form.Run result input.now (K.written sink.old) (K.written sink.new) }
     ensures end { (result ≢ Status.Words) × (result ≢ Status.ReadFault) }
     ensures nothing { WritesNothing result → sink.new ≡ sink.old }
     ensures fault { IsWriteFault result (K.faults sink.old) (K.faults sink.new) }
@@ -59,7 +59,7 @@ fn run_script<K: Sink>(alloc: Global, input: &[u8], script: &Script, sink: &mut 
 /// The form `run`: the report of the script that the input spells, or the line of its first fault. All memory is taken before the first
 /// write.
 pub fn run<K: Sink>(alloc: Global, input: &[u8], sink: &mut K) -> Status
-    ensures answer { IsAnswer IsRunOf Form.Run result input.now (K.written sink.old) (K.written sink.new) }
+    ensures answer { IsAnswer IsRunOfAtWork Form.Run result input.now (K.written sink.old) (K.written sink.new) }
     ensures end { (result ≢ Status.Words) × (result ≢ Status.ReadFault) }
     ensures nothing { WritesNothing result → sink.new ≡ sink.old }
     ensures fault { IsWriteFault result (K.faults sink.old) (K.faults sink.new) }
@@ -73,8 +73,8 @@ pub fn run<K: Sink>(alloc: Global, input: &[u8], sink: &mut K) -> Status
 
 /// Writes the image of a world.
 fn write_image<K: Sink>(alloc: Global, input: &[u8], world: &World, sink: &mut K) -> Status
-    requires { RunOf IsRunOf input.now world.now }
-    ensures answer { IsAnswer IsRunOf Form.Image result input.now (K.written sink.old) (K.written sink.new) }
+    requires { RunOf IsRunOfAtWork input.now world.now }
+    ensures answer { IsAnswer IsRunOfAtWork Form.Image result input.now (K.written sink.old) (K.written sink.new) }
     ensures end { (result ≢ Status.Words) × (result ≢ Status.ReadFault) }
     ensures nothing { WritesNothing result → sink.new ≡ sink.old }
     ensures fault { IsWriteFault result (K.faults sink.old) (K.faults sink.new) }
@@ -93,7 +93,7 @@ fn write_image<K: Sink>(alloc: Global, input: &[u8], world: &World, sink: &mut K
 fn image_script<K: Sink>(alloc: Global, input: &[u8], script: &Script, sink: &mut K) -> Status
     requires spelled { Spells input.now script.now }
     requires fits { IsFit script.now }
-    ensures answer { IsAnswer IsRunOf Form.Image result input.now (K.written sink.old) (K.written sink.new) }
+    ensures answer { IsAnswer IsRunOfAtWork Form.Image result input.now (K.written sink.old) (K.written sink.new) }
     ensures end { (result ≢ Status.Words) × (result ≢ Status.ReadFault) }
     ensures nothing { WritesNothing result → sink.new ≡ sink.old }
     ensures fault { IsWriteFault result (K.faults sink.old) (K.faults sink.new) }
@@ -107,7 +107,7 @@ fn image_script<K: Sink>(alloc: Global, input: &[u8], script: &Script, sink: &mu
 /// The form `image`: the image of memory after the run of the script that the input spells, or the line of its first fault. All memory
 /// is taken before the first write.
 pub fn image<K: Sink>(alloc: Global, input: &[u8], sink: &mut K) -> Status
-    ensures answer { IsAnswer IsRunOf Form.Image result input.now (K.written sink.old) (K.written sink.new) }
+    ensures answer { IsAnswer IsRunOfAtWork Form.Image result input.now (K.written sink.old) (K.written sink.new) }
     ensures end { (result ≢ Status.Words) × (result ≢ Status.ReadFault) }
     ensures nothing { WritesNothing result → sink.new ≡ sink.old }
     ensures fault { IsWriteFault result (K.faults sink.old) (K.faults sink.new) }

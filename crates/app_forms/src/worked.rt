@@ -1,6 +1,6 @@
 //! Worked rows: which inputs are sound, and which ends `finishes` and `load` take and refuse.
 ghost use Rattle.std.specs.Prelude.{[], Some, None, codes};
-ghost use Rattle.bus_world.specs.Runs.{IsRunOf};
+ghost use Rattle.bus_world.specs.RunsAtWork.{IsRunOfAtWork};
 ghost use Rattle.app_forms.specs.Finished.{IsSound, FinishesForm};
 ghost use Rattle.app_forms.specs.Output.{IsLoadEnd};
 ghost use Rattle.app_forms.specs.Samples.{calm, failing};
@@ -22,14 +22,14 @@ pub fn sound_inputs()
 /// Where neither source nor sink failed, want of memory with nothing written is an end of `load`, and a refusal, or a byte that was
 /// written before, is none.
 pub fn calm_ends()
-    ensures memory { FinishesForm IsRunOf (Form.Load 1) Status.Memory calm [] (Some []) (Some []) }
-    ensures refused { FinishesForm IsRunOf (Form.Load 1) Status.Refused calm [] None None → ⊥ }
-    ensures written { FinishesForm IsRunOf (Form.Load 1) Status.Memory calm [] (Some []) (Some (codes "load")) → ⊥ }
+    ensures memory { FinishesForm IsRunOfAtWork (Form.Load 1) Status.Memory calm [] (Some []) (Some []) }
+    ensures refused { FinishesForm IsRunOfAtWork (Form.Load 1) Status.Refused calm [] None None → ⊥ }
+    ensures written { FinishesForm IsRunOfAtWork (Form.Load 1) Status.Memory calm [] (Some []) (Some (codes "load")) → ⊥ }
 {}
 
 /// It says nothing where the sink failed.
 pub fn failing_ends()
-    ensures { FinishesForm IsRunOf (Form.Load 1) Status.WriteFault failing [] None None }
+    ensures { FinishesForm IsRunOfAtWork (Form.Load 1) Status.WriteFault failing [] None None }
 {}
 
 /// `load` ends with its output, with a part of it where the sink fails, or for want of memory; it refuses nothing, and reads nothing that

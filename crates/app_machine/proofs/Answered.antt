@@ -3,7 +3,7 @@ use Rattle.std.proofs.Common.{◌≡◌, ◌≢◌, ℕ, List, Option, Some, Non
 use Rattle.app_ends.specs.Ends.{IsLeft}
 use Rattle.app_ends.specs.Input.{input_of}
 use Rattle.app_forms.specs.Form.{AreWordsOf}
-use Rattle.bus_world.specs.Runs.{IsRunOf}
+use Rattle.bus_world.specs.RunsAtWork.{IsRunOfAtWork}
 use Rattle.app_forms.specs.Output.{IsAnswer, IsLoad, IsLoadEnd, IsProgram, LeavesAs, Leaves}
 use Rattle.app_forms.proofs.Words.{loads_once}
 use Rattle.app_forms.specs.declared.form.Form.{Form}
@@ -12,23 +12,23 @@ use Rattle.app_ends.specs.declared.status.Status.{Status}
 use Rattle.app_ends.specs.declared.status.Status.TheVariants.{Words}
 
 pub program_of : (words : List (List ℕ)) (form : Form) (status : Status) (items : List ℕ) (old new : Option (List ℕ))
-    → AreWordsOf words form → status ≢ Words → IsAnswer IsRunOf form status items old new → IsProgram IsRunOf words status items old new
+    → AreWordsOf words form → status ≢ Words → IsAnswer IsRunOfAtWork form status items old new → IsProgram IsRunOfAtWork words status items old new
 program_of words form Words items old new are other answer = absurd (other refl)
 program_of words form _ items old new are other answer = (form, are, answer)
 
 -- whatever the source had
 pub program_of_any : (left : Option (List ℕ)) (words : List (List ℕ)) (form : Form) (status : Status) (old new : Option (List ℕ))
     → AreWordsOf words form → status ≢ Words
-    → ((input : List ℕ) → IsAnswer IsRunOf form status input old new)
-    → IfSome left (λ xs. IsProgram IsRunOf words status (input_of xs) old new)
+    → ((input : List ℕ) → IsAnswer IsRunOfAtWork form status input old new)
+    → IfSome left (λ xs. IsProgram IsRunOfAtWork words status (input_of xs) old new)
 program_of_any None words form status old new are other answer = tt
 program_of_any (Some xs) words form status old new are other answer =
     program_of words form status (input_of xs) old new are other (answer (input_of xs))
 
 pub program_of_source : (left : Option (List ℕ)) (words : List (List ℕ)) (form : Form) (status : Status) (old new : Option (List ℕ))
     → AreWordsOf words form → status ≢ Words
-    → IfSome left (λ xs. IsAnswer IsRunOf form status (input_of xs) old new)
-    → IfSome left (λ xs. IsProgram IsRunOf words status (input_of xs) old new)
+    → IfSome left (λ xs. IsAnswer IsRunOfAtWork form status (input_of xs) old new)
+    → IfSome left (λ xs. IsProgram IsRunOfAtWork words status (input_of xs) old new)
 program_of_source None words form status old new are other answer = tt
 program_of_source (Some xs) words form status old new are other answer =
     program_of words form status (input_of xs) old new are other answer
@@ -36,10 +36,10 @@ program_of_source (Some xs) words form status old new are other answer =
 -- `view` is the slice of the bytes that were read
 pub answer_of_source : (left : Option (List ℕ)) (view items : List ℕ) (form : Form) (status : Status) (old new : Option (List ℕ))
     → IfSome left (λ xs. items ≡ input_of xs) → view ≡ items
-    → IsAnswer IsRunOf form status view old new → IfSome left (λ xs. IsAnswer IsRunOf form status (input_of xs) old new)
+    → IsAnswer IsRunOfAtWork form status view old new → IfSome left (λ xs. IsAnswer IsRunOfAtWork form status (input_of xs) old new)
 answer_of_source None view items form status old new read whole answer = tt
 answer_of_source (Some xs) view items form status old new read whole answer =
-    subst (λ v. IsAnswer IsRunOf form status v old new) (whole ∙ read) answer
+    subst (λ v. IsAnswer IsRunOfAtWork form status v old new) (whole ∙ read) answer
 
 -- ---- what is left
 
@@ -75,6 +75,6 @@ leaves_all (Some xs) words n status are other = leaves_of words (Load n) status 
 
 -- what it answers to every input is what the program answers to its words
 pub load_of : (words : List (List ℕ)) (m : ℕ) (status : Status) (old new : Option (List ℕ)) → AreWordsOf words (Load m) → IsLoadEnd status
-    → ((input : List ℕ) → IsAnswer IsRunOf (Load m) status input old new) → IsLoad IsRunOf words status old new
+    → ((input : List ℕ) → IsAnswer IsRunOfAtWork (Load m) status input old new) → IsLoad IsRunOfAtWork words status old new
 load_of words m status old new are end answer =
-    λ n input other. (end, subst (λ k. IsAnswer IsRunOf (Load k) status input old new) (loads_once words m n are other) (answer input))
+    λ n input other. (end, subst (λ k. IsAnswer IsRunOfAtWork (Load k) status input old new) (loads_once words m n are other) (answer input))

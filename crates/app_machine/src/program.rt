@@ -3,7 +3,7 @@ ghost use Rattle.app_ends.specs.Ends.{IsFault, IsWriteFault, WritesNothing};
 ghost use Rattle.app_ends.specs.Input.{input_of};
 ghost use Rattle.app_forms.specs.Form.{AreWordsOf, AreNoForm};
 ghost use Rattle.app_forms.specs.Output.{IsAnswer, IsLoad, IsProgram, LeavesAs, Leaves};
-ghost use Rattle.bus_world.specs.Runs.{IsRunOf};
+ghost use Rattle.bus_world.specs.RunsAtWork.{IsRunOfAtWork};
 
 use app_ends::{Status, Unread, read_input};
 use app_forms::{Form, check, dump, form_of, image, load, run};
@@ -14,7 +14,7 @@ use usb_base::{Sink, Source};
 ///
 /// It reads all that the source has, or its first 1,048,601 bytes, and writes only once all of the input was read; for `load` it reads
 /// nothing. Its words, its statuses and what it writes are those of `ehci`. Of a run of a script `output` says here that it was carried out
-/// as far as each of its microframes ended within 67,108,864 turns; that all of them do is a law.
+/// as far as each of its microframes ended within 67,108,864 turns; that all of them do where the script clears no halt is a law.
 ///
 /// - `Words` exactly where the words have none of the forms; nothing is read or written.
 /// - `ReadFault` exactly where a read failed, which is the last one: the source's count of faults rose by one. Nothing is written.
@@ -31,9 +31,9 @@ pub fn ehci_machine<S: Source, K: Sink>(
     ensures words { (result ≡ Status.Words) ↔ AreNoForm (map string_bytes words.now) }
     ensures untouched { result ≡ Status.Words → (source.new ≡ source.old) × (sink.new ≡ sink.old) }
     ensures unread { (n : ℕ) → AreWordsOf (map string_bytes words.now) (Form.Load n) → source.new ≡ source.old }
-    ensures load { IsLoad IsRunOf (map string_bytes words.now) result (K.written sink.old) (K.written sink.new) }
+    ensures load { IsLoad IsRunOfAtWork (map string_bytes words.now) result (K.written sink.old) (K.written sink.new) }
     ensures output { IfSome (S.left source.old) (λ xs.
-        IsProgram IsRunOf (map string_bytes words.now) result (input_of xs) (K.written sink.old) (K.written sink.new)) }
+        IsProgram IsRunOfAtWork (map string_bytes words.now) result (input_of xs) (K.written sink.old) (K.written sink.new)) }
     ensures left { IfSome (S.left source.old) (λ xs. Leaves (map string_bytes words.now) result xs (S.left source.new)) }
     ensures nothing { WritesNothing result → sink.new ≡ sink.old }
     ensures read { IsFault result (S.faults source.old) (S.faults source.new) }
@@ -55,7 +55,7 @@ fn read_and_answer<S: Source, K: Sink>(
 ) -> Status
     requires { (n : ℕ) → form ≢ Form.Load n }
     ensures answer { IfSome (S.left source.old) (λ xs.
-        IsAnswer IsRunOf form result (input_of xs) (K.written sink.old) (K.written sink.new)) }
+        IsAnswer IsRunOfAtWork form result (input_of xs) (K.written sink.old) (K.written sink.new)) }
     ensures left { IfSome (S.left source.old) (λ xs. LeavesAs form result xs (S.left source.new)) }
     ensures end { result ≢ Status.Words }
     ensures nothing { WritesNothing result → sink.new ≡ sink.old }
@@ -72,7 +72,7 @@ fn read_and_answer<S: Source, K: Sink>(
 
 /// The answer of a form to an input.
 fn answer<K: Sink>(alloc: Global, form: Form, input: &[u8], sink: &mut K) -> Status
-    ensures answer { IsAnswer IsRunOf form result input.now (K.written sink.old) (K.written sink.new) }
+    ensures answer { IsAnswer IsRunOfAtWork form result input.now (K.written sink.old) (K.written sink.new) }
     ensures end { (result ≢ Status.Words) × (result ≢ Status.ReadFault) }
     ensures nothing { WritesNothing result → sink.new ≡ sink.old }
     ensures fault { IsWriteFault result (K.faults sink.old) (K.faults sink.new) }
