@@ -19,7 +19,8 @@ SAYS = {
               "of the script that they spell, for `check` and `dump` its text, else the first fault. The run is that of the table machine (driver, controller, hubs, devices), "
               "event by event, with the driver's job where a script clears halts. Where it clears none every line was carried out, and there is no job at the end; else the "
               "run may have stopped in a microframe that hadn't ended after 67,108,864 turns.",
-    "plain": "At each moment of the run of a script that clears no halt, which is each of version 1 and of version 2 each without a `clear` line, the driver is at no job, no endpoint was reset, and the world is that of the table machine "
+    "first": "A script of version 1 clears no halt: its grammar has no line for it.",
+    "plain": "At each moment of the run of a script that clears no halt, which is each of version 1 (`first`) and of version 2 each without a `clear` line, the driver is at no job, no endpoint was reset, and the world is that of the table machine "
              "whose driver knows no jobs: so what the clauses below say of its moments is said of what is run.",
     "microframes": "Each microframe that a script lets pass ends after at most 17,957,823 events of the controller, each followed by one of the driver; so each line of the script is carried "
                    "out, and the report that `output` speaks of stands after the whole run.",

@@ -2,7 +2,8 @@
 -- number spells.
 --     OfEachScript so words left        so it is of each, where left is what the source has left
 --     OfEachPlainScript so words left   so it is of each that clears no halt
-use Rattle.std.specs.Prelude.{ℕ, List, Option, IfSome}
+--     FirstIsPlain s                    one of version 1 is such a script
+use Rattle.std.specs.Prelude.{◌≡◌, ℕ, List, Option, IfSome}
 use Rattle.script_types.specs.declared.scripts.Script.{Script}
 use Rattle.script_text.specs.Faults.{Spells}
 use Rattle.script_load.specs.Load.{load_text}
@@ -19,3 +20,6 @@ pub record OfEachScript (so : Script → Type 0) (words : List (List ℕ)) (left
 
 abbrev pub OfEachPlainScript : (Script → Type 0) → List (List ℕ) → Option (List ℕ) → Type 0
 OfEachPlainScript so words left = OfEachScript (λ s. IsPlain s → so s) words left
+
+abbrev pub FirstIsPlain : Script → Type 0
+FirstIsPlain s = s.version ≡ 1 → IsPlain s

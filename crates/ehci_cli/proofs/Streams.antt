@@ -14,8 +14,8 @@ use Rattle.bus_world.specs.Runs.{IsWholeRunOf}
 use Rattle.claims_world.specs.Misses.{MissesAreBelowThroughout}
 use Rattle.claims_world.specs.Quiet.{WhereHeardAbove, ErrorsAreBelowThroughout}
 use Rattle.claims_world.specs.Ends.{IsEndedOnce, EndsOnceThroughout, EndsOnce}
-use Rattle.app_forms.specs.Scripts.{OfEachScript}
-use Rattle.ehci_cli.proofs.Each.{of_each}
+use Rattle.app_forms.specs.Scripts.{OfEachPlainScript}
+use Rattle.ehci_cli.proofs.Each.{of_each_plain}
 use Rattle.law_reports.proofs.lemmas.lines.Ended.{texts_end_once}
 use Rattle.law_reports.proofs.lemmas.quiet.Lines.{texts_miss_below, texts_fail_below}
 
@@ -31,15 +31,15 @@ module _ (so : WholeReport → Type 0) where
 ends : (s : Script) → EndsOnceThroughout s → EndsOnce s
 ends s k = record { throughout = k; after = λ w ran name other. at_end (λ r. IsEndedOnce r name) s (λ j none. k j name other) w ran }
 
-pub source_ends_once : (words : List (List ℕ)) (left : Option (List ℕ)) → OfEachScript EndsOnce words left
-source_ends_once = of_each EndsOnce (λ text s spelled. ends s (texts_end_once text s spelled))
+pub source_ends_once : (words : List (List ℕ)) (left : Option (List ℕ)) → OfEachPlainScript EndsOnce words left
+source_ends_once = of_each_plain EndsOnce (λ text s spelled. ends s (texts_end_once text s spelled))
 
-pub source_misses_below : (words : List (List ℕ)) (left : Option (List ℕ)) → OfEachScript MissesAreBelowThroughout words left
-source_misses_below = of_each MissesAreBelowThroughout texts_miss_below
+pub source_misses_below : (words : List (List ℕ)) (left : Option (List ℕ)) → OfEachPlainScript MissesAreBelowThroughout words left
+source_misses_below = of_each_plain MissesAreBelowThroughout texts_miss_below
 
 pub source_fails_below : (words : List (List ℕ)) (left : Option (List ℕ))
-    → OfEachScript (WhereHeardAbove ErrorsAreBelowThroughout) words left
-source_fails_below = of_each (WhereHeardAbove ErrorsAreBelowThroughout) texts_fail_below
+    → OfEachPlainScript (WhereHeardAbove ErrorsAreBelowThroughout) words left
+source_fails_below = of_each_plain (WhereHeardAbove ErrorsAreBelowThroughout) texts_fail_below
 
-pub source_keeps_streams : (words : List (List ℕ)) (left : Option (List ℕ)) → OfEachScript KeepsStreams words left
-source_keeps_streams = of_each KeepsStreams texts_keep_streams
+pub source_keeps_streams : (words : List (List ℕ)) (left : Option (List ℕ)) → OfEachPlainScript KeepsStreams words left
+source_keeps_streams = of_each_plain KeepsStreams texts_keep_streams

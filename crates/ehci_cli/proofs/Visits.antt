@@ -24,50 +24,50 @@ use Rattle.law_reports.proofs.lemmas.due_at_begin.ResultDue.{texts_take_results}
 use Rattle.claims_world.specs.Unfinished.{KeepsToWork}
 use Rattle.law_reports.proofs.lemmas.queues.Copies.{texts_keep_to_work}
 use Rattle.claims_world.specs.Microframes.{MicroframesEnd}
-use Rattle.app_forms.specs.Scripts.{OfEachScript}
-use Rattle.ehci_cli.proofs.Each.{of_each}
+use Rattle.app_forms.specs.Scripts.{OfEachPlainScript}
+use Rattle.ehci_cli.proofs.Each.{of_each_plain}
 
-pub source_keeps_visits : (words : List (List ℕ)) (left : Option (List ℕ)) → OfEachScript KeepsVisits words left
-source_keeps_visits = of_each KeepsVisits texts_keep_visits
+pub source_keeps_visits : (words : List (List ℕ)) (left : Option (List ℕ)) → OfEachPlainScript KeepsVisits words left
+source_keeps_visits = of_each_plain KeepsVisits texts_keep_visits
 
-pub source_pays_within_load : (words : List (List ℕ)) (left : Option (List ℕ)) → OfEachScript PaysWithinLoad words left
-source_pays_within_load = of_each PaysWithinLoad texts_pay_within_load
+pub source_pays_within_load : (words : List (List ℕ)) (left : Option (List ℕ)) → OfEachPlainScript PaysWithinLoad words left
+source_pays_within_load = of_each_plain PaysWithinLoad texts_pay_within_load
 
-pub source_is_in_time : (words : List (List ℕ)) (left : Option (List ℕ)) → OfEachScript ArriveInTime words left
-source_is_in_time = of_each ArriveInTime texts_are_in_time
+pub source_is_in_time : (words : List (List ℕ)) (left : Option (List ℕ)) → OfEachPlainScript ArriveInTime words left
+source_is_in_time = of_each_plain ArriveInTime texts_are_in_time
 
-pub source_ends_microframes : (words : List (List ℕ)) (left : Option (List ℕ)) → OfEachScript MicroframesEnd words left
-source_ends_microframes = of_each MicroframesEnd texts_end_microframes
+pub source_ends_microframes : (words : List (List ℕ)) (left : Option (List ℕ)) → OfEachPlainScript MicroframesEnd words left
+source_ends_microframes = of_each_plain MicroframesEnd texts_end_microframes
 
-pub source_keeps_due : (words : List (List ℕ)) (left : Option (List ℕ)) → OfEachScript KeepsDue words left
-source_keeps_due = of_each KeepsDue texts_keep_due
+pub source_keeps_due : (words : List (List ℕ)) (left : Option (List ℕ)) → OfEachPlainScript KeepsDue words left
+source_keeps_due = of_each_plain KeepsDue texts_keep_due
 
-pub source_does_slots : (words : List (List ℕ)) (left : Option (List ℕ)) → OfEachScript SlotsAreDone words left
-source_does_slots = of_each SlotsAreDone texts_serve_slots
+pub source_does_slots : (words : List (List ℕ)) (left : Option (List ℕ)) → OfEachPlainScript SlotsAreDone words left
+source_does_slots = of_each_plain SlotsAreDone texts_serve_slots
 
-pub source_keeps_to_work : (words : List (List ℕ)) (left : Option (List ℕ)) → OfEachScript KeepsToWork words left
-source_keeps_to_work = of_each KeepsToWork texts_keep_to_work
+pub source_keeps_to_work : (words : List (List ℕ)) (left : Option (List ℕ)) → OfEachPlainScript KeepsToWork words left
+source_keeps_to_work = of_each_plain KeepsToWork texts_keep_to_work
 
-pub source_repeats_after_losses : (words : List (List ℕ)) (left : Option (List ℕ)) → OfEachScript RepeatAfterLosses words left
-source_repeats_after_losses = of_each RepeatAfterLosses texts_repeat_after_losses
+pub source_repeats_after_losses : (words : List (List ℕ)) (left : Option (List ℕ)) → OfEachPlainScript RepeatAfterLosses words left
+source_repeats_after_losses = of_each_plain RepeatAfterLosses texts_repeat_after_losses
 
-pub source_keeps_translators : (words : List (List ℕ)) (left : Option (List ℕ)) → OfEachScript KeepsTranslators words left
-source_keeps_translators = of_each KeepsTranslators texts_keep_translators
+pub source_keeps_translators : (words : List (List ℕ)) (left : Option (List ℕ)) → OfEachPlainScript KeepsTranslators words left
+source_keeps_translators = of_each_plain KeepsTranslators texts_keep_translators
 
-pub source_does_what_is_due_at_begin : (words : List (List ℕ)) (left : Option (List ℕ)) → OfEachScript DueAtBeginIsDone words left
-source_does_what_is_due_at_begin = of_each DueAtBeginIsDone texts_do_what_is_due_at_begin
+pub source_does_what_is_due_at_begin : (words : List (List ℕ)) (left : Option (List ℕ)) → OfEachPlainScript DueAtBeginIsDone words left
+source_does_what_is_due_at_begin = of_each_plain DueAtBeginIsDone texts_do_what_is_due_at_begin
 
-pub source_does_slots_at_begin : (words : List (List ℕ)) (left : Option (List ℕ)) → OfEachScript SlotsAtBeginAreDone words left
-source_does_slots_at_begin = of_each SlotsAtBeginAreDone texts_do_slots_at_begin
+pub source_does_slots_at_begin : (words : List (List ℕ)) (left : Option (List ℕ)) → OfEachPlainScript SlotsAtBeginAreDone words left
+source_does_slots_at_begin = of_each_plain SlotsAtBeginAreDone texts_do_slots_at_begin
 
-pub source_makes_splits : (words : List (List ℕ)) (left : Option (List ℕ)) → OfEachScript KeepsSplits words left
-source_makes_splits = of_each KeepsSplits texts_make_splits
+pub source_makes_splits : (words : List (List ℕ)) (left : Option (List ℕ)) → OfEachPlainScript KeepsSplits words left
+source_makes_splits = of_each_plain KeepsSplits texts_make_splits
 
-pub source_takes_results : (words : List (List ℕ)) (left : Option (List ℕ)) → OfEachScript KeepsAnswers words left
-source_takes_results = of_each KeepsAnswers texts_take_results
+pub source_takes_results : (words : List (List ℕ)) (left : Option (List ℕ)) → OfEachPlainScript KeepsAnswers words left
+source_takes_results = of_each_plain KeepsAnswers texts_take_results
 
-pub source_serves_sitds : (words : List (List ℕ)) (left : Option (List ℕ)) → OfEachScript SitdsAreServed words left
-source_serves_sitds = of_each SitdsAreServed texts_serve_sitds
+pub source_serves_sitds : (words : List (List ℕ)) (left : Option (List ℕ)) → OfEachPlainScript SitdsAreServed words left
+source_serves_sitds = of_each_plain SitdsAreServed texts_serve_sitds
 
-pub source_serves_sitds_at_begin : (words : List (List ℕ)) (left : Option (List ℕ)) → OfEachScript SitdsAtBeginAreServed words left
-source_serves_sitds_at_begin = of_each SitdsAtBeginAreServed texts_serve_sitds_at_begin
+pub source_serves_sitds_at_begin : (words : List (List ℕ)) (left : Option (List ℕ)) → OfEachPlainScript SitdsAtBeginAreServed words left
+source_serves_sitds_at_begin = of_each_plain SitdsAtBeginAreServed texts_serve_sitds_at_begin

@@ -1,5 +1,5 @@
 ghost use Rattle.std.specs.Prelude.{◌≡◌, ℕ, ◌≤◌, ◌↔◌, map, string_bytes, IfSome};
-ghost use Rattle.bus_world.specs.Budgets.{AdmitsThroughout};
+ghost use Rattle.bus_world.specs.BudgetsAtWork.{AdmitsAtWork};
 ghost use Rattle.claims_world.specs.Schedule.{KeepsScheduleThroughout};
 ghost use Rattle.claims_world.specs.Lent.{KeepsToLentThroughout};
 ghost use Rattle.claims_world.specs.Owned.{OwnsItsBlocksThroughout};
@@ -7,7 +7,7 @@ ghost use Rattle.app_ends.specs.Ends.{IsFault, IsWriteFault, WritesNothing};
 ghost use Rattle.app_ends.specs.Input.{input_of};
 ghost use Rattle.app_forms.specs.Finished.{Finishes};
 ghost use Rattle.app_forms.specs.Form.{AreWordsOf, AreNoForm};
-ghost use Rattle.bus_world.specs.Runs.{IsWholeRunOf};
+ghost use Rattle.bus_world.specs.PlainEnds.{IsRunCarriedOut, RunsPlain};
 ghost use Rattle.app_forms.specs.Output.{IsLoad, IsProgram, Leaves};
 ghost use Rattle.claims_world.specs.Memory.{KeepsMemory};
 ghost use Rattle.claims_world.specs.Links.{KeepsLinks};
@@ -30,7 +30,7 @@ ghost use Rattle.claims_world.specs.SplitsAtBegin.{KeepsSplits};
 ghost use Rattle.claims_world.specs.Unfinished.{KeepsToWork};
 ghost use Rattle.claims_world.specs.Microframes.{MicroframesEnd};
 ghost use Rattle.claims_world.specs.Requests.{KeepsRequests};
-ghost use Rattle.app_forms.specs.Scripts.{OfEachScript};
+ghost use Rattle.app_forms.specs.Scripts.{FirstIsPlain, OfEachScript, OfEachPlainScript};
 ghost use Rattle.claims_world.specs.BelowStreams.{KeepsStreams};
 ghost use Rattle.claims_world.specs.Ends.{EndsOnce};
 ghost use Rattle.claims_world.specs.Misses.{MissesAreBelowThroughout};
@@ -68,14 +68,16 @@ use usb_base::{Sink, Source};
 /// is written, or with `Memory`. The script that is drawn for `load` is always one, so `load` ends with `Ok`, `WriteFault` or `Memory`.
 ///
 /// What the clauses after `output` say is said of the table machine over the script that the input spells, and, for `load`, over the
-/// one that is drawn from the number; `output` and `load` say that what is printed is the report of its whole run, or what that counts.
-/// docs/THEOREM.md has each clause with its definitions.
+/// one that is drawn from the number; `output` and `load` say that what is printed is the report of its run, or what that counts. All of
+/// these clauses but `budgets` speak of scripts that clear no halt: at each moment of the run of such a script the driver is at no job,
+/// no endpoint was reset, and the machine is that of a driver without jobs. Of a script with clears the run is that of the driver with its
+/// job, as far as each microframe ended within 67,108,864 turns. docs/THEOREM.md has each clause with its definitions.
 ///
 /// Each microframe of a script's run ends, after at most 17,957,823 events of the controller, each followed by one of the driver; so
 /// every line is carried out, and what is reported stands after the whole run.
 ///
-/// At each moment of a script's run what is placed keeps the budgets of bus time, and the open of a periodic endpoint is refused for
-/// want of a placement exactly where no allowed one fits beside it. The controller's next event reads and writes words of Lent blocks
+/// At each moment of a script's run, clears and all, what is placed keeps the budgets of bus time, and with no clear under way the open
+/// of a periodic endpoint is refused for want of a placement exactly where no allowed one fits beside it. The controller's next event reads and writes words of Lent blocks
 /// alone, and what the driver's next event gives back is Free right after it. Just the blocks of what the driver still needs are Lent,
 /// each run of them with one owner, but for what its unfinished command has still to lend. Each frame of the driver's list has the
 /// queue heads of the interrupt endpoints that are placed in it, each once and no others, those of cancelled endpoints until they are
@@ -180,50 +182,52 @@ pub fn ehci<S: Source, K: Sink>(
     ensures words { (result ≡ Status.Words) ↔ AreNoForm (map string_bytes words.now) }
     ensures untouched { result ≡ Status.Words → (source.new ≡ source.old) × (sink.new ≡ sink.old) }
     ensures unread { (n : ℕ) → AreWordsOf (map string_bytes words.now) (Form.Load n) → source.new ≡ source.old }
-    ensures load { IsLoad IsWholeRunOf (map string_bytes words.now) result (K.written sink.old) (K.written sink.new) }
-    ensures output { IfSome (S.left source.old) (λ xs. IsProgram IsWholeRunOf (map string_bytes words.now) result (input_of xs) (K.written sink.old) (K.written sink.new)) }
-    ensures budgets { OfEachScript AdmitsThroughout (map string_bytes words.now) (S.left source.old) }
-    ensures lent { OfEachScript KeepsToLentThroughout (map string_bytes words.now) (S.left source.old) }
-    ensures owned { OfEachScript OwnsItsBlocksThroughout (map string_bytes words.now) (S.left source.old) }
-    ensures schedule { OfEachScript KeepsScheduleThroughout (map string_bytes words.now) (S.left source.old) }
-    ensures memory { OfEachScript KeepsMemory (map string_bytes words.now) (S.left source.old) }
-    ensures reach { OfEachScript ReachesLentThroughout (map string_bytes words.now) (S.left source.old) }
-    ensures owners { OfEachScript KeepsToOwnersThroughout (map string_bytes words.now) (S.left source.old) }
-    ensures releases { OfEachScript GivesBackLast (map string_bytes words.now) (S.left source.old) }
-    ensures given_back { OfEachScript StaysUntouched (map string_bytes words.now) (S.left source.old) }
-    ensures links { OfEachScript KeepsLinks (map string_bytes words.now) (S.left source.old) }
-    ensures visits { OfEachScript KeepsVisits (map string_bytes words.now) (S.left source.old) }
-    ensures microframes { OfEachScript MicroframesEnd (map string_bytes words.now) (S.left source.old) }
-    ensures within_load { OfEachScript PaysWithinLoad (map string_bytes words.now) (S.left source.old) }
-    ensures in_time { OfEachScript ArriveInTime (map string_bytes words.now) (S.left source.old) }
-    ensures repeats { OfEachScript RepeatAfterLosses (map string_bytes words.now) (S.left source.old) }
-    ensures translators { OfEachScript KeepsTranslators (map string_bytes words.now) (S.left source.old) }
-    ensures due { OfEachScript KeepsDue (map string_bytes words.now) (S.left source.old) }
-    ensures due_at_begin { OfEachScript DueAtBeginIsDone (map string_bytes words.now) (S.left source.old) }
-    ensures slots { OfEachScript SlotsAreDone (map string_bytes words.now) (S.left source.old) }
-    ensures slots_at_begin { OfEachScript SlotsAtBeginAreDone (map string_bytes words.now) (S.left source.old) }
-    ensures splits_at_begin { OfEachScript KeepsSplits (map string_bytes words.now) (S.left source.old) }
-    ensures results { OfEachScript KeepsAnswers (map string_bytes words.now) (S.left source.old) }
-    ensures sitds { OfEachScript SitdsAreServed (map string_bytes words.now) (S.left source.old) }
-    ensures sitds_at_begin { OfEachScript SitdsAtBeginAreServed (map string_bytes words.now) (S.left source.old) }
-    ensures goes_on { OfEachScript KeepsToWork (map string_bytes words.now) (S.left source.old) }
-    ensures streams { OfEachScript KeepsStreams (map string_bytes words.now) (S.left source.old) }
-    ensures ends { OfEachScript EndsOnce (map string_bytes words.now) (S.left source.old) }
-    ensures misses { OfEachScript MissesAreBelowThroughout (map string_bytes words.now) (S.left source.old) }
-    ensures errors { OfEachScript (WhereHeardAbove ErrorsAreBelowThroughout) (map string_bytes words.now) (S.left source.old) }
-    ensures requests { OfEachScript KeepsRequests (map string_bytes words.now) (S.left source.old) }
-    ensures answers { OfEachScript CommandsHaveCauses (map string_bytes words.now) (S.left source.old) }
+    ensures load { IsLoad IsRunCarriedOut (map string_bytes words.now) result (K.written sink.old) (K.written sink.new) }
+    ensures output { IfSome (S.left source.old) (λ xs. IsProgram IsRunCarriedOut (map string_bytes words.now) result (input_of xs) (K.written sink.old) (K.written sink.new)) }
+    ensures plain { OfEachScript RunsPlain (map string_bytes words.now) (S.left source.old) }
+    ensures first { OfEachScript FirstIsPlain (map string_bytes words.now) (S.left source.old) }
+    ensures budgets { OfEachScript AdmitsAtWork (map string_bytes words.now) (S.left source.old) }
+    ensures lent { OfEachPlainScript KeepsToLentThroughout (map string_bytes words.now) (S.left source.old) }
+    ensures owned { OfEachPlainScript OwnsItsBlocksThroughout (map string_bytes words.now) (S.left source.old) }
+    ensures schedule { OfEachPlainScript KeepsScheduleThroughout (map string_bytes words.now) (S.left source.old) }
+    ensures memory { OfEachPlainScript KeepsMemory (map string_bytes words.now) (S.left source.old) }
+    ensures reach { OfEachPlainScript ReachesLentThroughout (map string_bytes words.now) (S.left source.old) }
+    ensures owners { OfEachPlainScript KeepsToOwnersThroughout (map string_bytes words.now) (S.left source.old) }
+    ensures releases { OfEachPlainScript GivesBackLast (map string_bytes words.now) (S.left source.old) }
+    ensures given_back { OfEachPlainScript StaysUntouched (map string_bytes words.now) (S.left source.old) }
+    ensures links { OfEachPlainScript KeepsLinks (map string_bytes words.now) (S.left source.old) }
+    ensures visits { OfEachPlainScript KeepsVisits (map string_bytes words.now) (S.left source.old) }
+    ensures microframes { OfEachPlainScript MicroframesEnd (map string_bytes words.now) (S.left source.old) }
+    ensures within_load { OfEachPlainScript PaysWithinLoad (map string_bytes words.now) (S.left source.old) }
+    ensures in_time { OfEachPlainScript ArriveInTime (map string_bytes words.now) (S.left source.old) }
+    ensures repeats { OfEachPlainScript RepeatAfterLosses (map string_bytes words.now) (S.left source.old) }
+    ensures translators { OfEachPlainScript KeepsTranslators (map string_bytes words.now) (S.left source.old) }
+    ensures due { OfEachPlainScript KeepsDue (map string_bytes words.now) (S.left source.old) }
+    ensures due_at_begin { OfEachPlainScript DueAtBeginIsDone (map string_bytes words.now) (S.left source.old) }
+    ensures slots { OfEachPlainScript SlotsAreDone (map string_bytes words.now) (S.left source.old) }
+    ensures slots_at_begin { OfEachPlainScript SlotsAtBeginAreDone (map string_bytes words.now) (S.left source.old) }
+    ensures splits_at_begin { OfEachPlainScript KeepsSplits (map string_bytes words.now) (S.left source.old) }
+    ensures results { OfEachPlainScript KeepsAnswers (map string_bytes words.now) (S.left source.old) }
+    ensures sitds { OfEachPlainScript SitdsAreServed (map string_bytes words.now) (S.left source.old) }
+    ensures sitds_at_begin { OfEachPlainScript SitdsAtBeginAreServed (map string_bytes words.now) (S.left source.old) }
+    ensures goes_on { OfEachPlainScript KeepsToWork (map string_bytes words.now) (S.left source.old) }
+    ensures streams { OfEachPlainScript KeepsStreams (map string_bytes words.now) (S.left source.old) }
+    ensures ends { OfEachPlainScript EndsOnce (map string_bytes words.now) (S.left source.old) }
+    ensures misses { OfEachPlainScript MissesAreBelowThroughout (map string_bytes words.now) (S.left source.old) }
+    ensures errors { OfEachPlainScript (WhereHeardAbove ErrorsAreBelowThroughout) (map string_bytes words.now) (S.left source.old) }
+    ensures requests { OfEachPlainScript KeepsRequests (map string_bytes words.now) (S.left source.old) }
+    ensures answers { OfEachPlainScript CommandsHaveCauses (map string_bytes words.now) (S.left source.old) }
     ensures places { (n : ℕ) → AreWordsOf (map string_bytes words.now) (Form.Load n) → (s : Script) → Spells (load_text n) s
         → OpensHavePlaces s }
-    ensures hears { OfEachScript HearsThroughout (map string_bytes words.now) (S.left source.old) }
-    ensures works { OfEachScript RestsThroughout (map string_bytes words.now) (S.left source.old) }
-    ensures lines { OfEachScript LinesHaveReasons (map string_bytes words.now) (S.left source.old) }
-    ensures pending { OfEachScript PendingIsCounted (map string_bytes words.now) (S.left source.old) }
+    ensures hears { OfEachPlainScript HearsThroughout (map string_bytes words.now) (S.left source.old) }
+    ensures works { OfEachPlainScript RestsThroughout (map string_bytes words.now) (S.left source.old) }
+    ensures lines { OfEachPlainScript LinesHaveReasons (map string_bytes words.now) (S.left source.old) }
+    ensures pending { OfEachPlainScript PendingIsCounted (map string_bytes words.now) (S.left source.old) }
     ensures left { IfSome (S.left source.old) (λ xs. Leaves (map string_bytes words.now) result xs (S.left source.new)) }
     ensures nothing { WritesNothing result → sink.new ≡ sink.old }
     ensures read { IsFault result (S.faults source.old) (S.faults source.new) }
     ensures write { IsWriteFault result (K.faults sink.old) (K.faults sink.new) }
-    ensures finishes { Finishes IsWholeRunOf (map string_bytes words.now) result
+    ensures finishes { Finishes IsRunCarriedOut (map string_bytes words.now) result
         (record {
           read_before = S.faults source.old;
           read_after = S.faults source.new;

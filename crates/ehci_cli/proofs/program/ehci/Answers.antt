@@ -9,11 +9,17 @@ use Rattle.ehci_cli.proofs.Visits.{source_keeps_visits, source_pays_within_load,
 use Rattle.ehci_cli.proofs.Visits.{source_does_what_is_due_at_begin, source_does_slots_at_begin, source_keeps_translators}
 use Rattle.ehci_cli.proofs.Visits.{source_makes_splits, source_takes_results, source_serves_sitds, source_serves_sitds_at_begin}
 use Rattle.app_forms.proofs.Finished.{finishes}
-use Rattle.ehci_cli.proofs.Whole.{whole_load, whole_program}
+use Rattle.ehci_cli.proofs.Whole.{whole_load, whole_program, source_runs_plain, source_first_is_plain}
 use Rattle.ehci_cli.proofs.program.ehci.Goals as goal
 
 pub returns-clause-load : goal.returns-clause-load
 returns-clause-load g c = whole_load _ _ _ _ c.ehci_machine.ensures.load
+
+pub returns-clause-plain : goal.returns-clause-plain
+returns-clause-plain g c = source_runs_plain _ _
+
+pub returns-clause-first : goal.returns-clause-first
+returns-clause-first g c = source_first_is_plain _ _
 
 pub returns-clause-budgets : goal.returns-clause-budgets
 returns-clause-budgets g c = source_admits _ _
