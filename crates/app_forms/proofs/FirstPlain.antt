@@ -158,7 +158,8 @@ after_plain w n (says_to.Open name) unless h = open_plain w n (known w name) h
 after_plain w n (says_to.Cancel name) unless h = where_plain w name _ h (command_plain w n (cmd.Cancel (name_of name)) tt h)
 after_plain w n (says_to.Clear name) unless h = where_plain w name _ h (λ e. let same : true ≡ false = unless e in absurd cc)
 after_plain w n (says_to.Get l) unless h =
-    where_plain w l.name _ h (command_plain (record w { asked = counted w.asked l.len }) n (cmd.Get (name_of l.name) l.len (by_of l.by)) tt h)
+    where_plain w l.name _ h (command_plain (record w { asked = counted w.asked l.len }) n (cmd.Get (name_of l.name) l.len
+    (by_of l.by)) tt h)
 after_plain w n (says_to.Put l) unless h =
     where_plain w l.name _ h
     (command_plain (record w {
@@ -192,7 +193,8 @@ form_read_plain w n more (Ok form) unless h =
     (after_plain w n (statement_of form more) (λ e. said_plain form more (unless e)) h)
 form_read_plain w n more (Err why) unless h = tt
 
-first_plain : (w : Draft) (n : ℕ) (more : List (List ℕ)) (o : Option FirstWord) → IsFirstPlain w → Reads (first_read w n more (built w.version o))
+first_plain : (w : Draft) (n : ℕ) (more : List (List ℕ)) (o : Option FirstWord) → IsFirstPlain w
+    → Reads (first_read w n more (built w.version o))
 first_plain w n more None h = tt
 first_plain w n more (Some first) h = elim (cases_Bool (is_built w.version first)) [
   | inl t ↦ rw t

@@ -25,7 +25,8 @@ IsSound Check input = is_sound_as (is_image input) input ≡ true
 IsSound Dump input = image_fault input ≡ None
 IsSound (Load n) input = Unit {0}
 
-pub data IsFinished (runs : Script → StandingAtWork → Type 0) (form : Form) (input : List ℕ) (old new : Option (List ℕ)) : Status → Type 0 where
+pub data IsFinished (runs : Script → StandingAtWork → Type 0) (form : Form) (input : List ℕ) (old new : Option (List ℕ)) : Status
+    → Type 0 where
   whole : WritesAll runs form input Ok old new → IsFinished runs form input old new Ok
   lacks_memory : Keeps old new → IsFinished runs form input old new Memory
 
@@ -41,7 +42,7 @@ FinishesForm runs form status faults input old new =
     IsSound form input → (Rose faults.read_before faults.read_after → ⊥) → (Rose faults.written_before faults.written_after → ⊥)
     → IsFinished runs form input old new status
 
-pub record Finishes (runs : Script → StandingAtWork → Type 0) (words : List (List ℕ)) (status : Status) (faults : Faults) (left : Option (List ℕ))
-    (old new : Option (List ℕ)) : Type 0 where
+pub record Finishes (runs : Script → StandingAtWork → Type 0) (words : List (List ℕ)) (status : Status) (faults : Faults)
+    (left : Option (List ℕ)) (old new : Option (List ℕ)) : Type 0 where
   pub read : IfSome left (λ xs. (form : Form) → AreWordsOf words form → FinishesForm runs form status faults (input_of xs) old new)
   pub drawn : (n : ℕ) (input : List ℕ) → AreWordsOf words (Load n) → FinishesForm runs (Load n) status faults input old new

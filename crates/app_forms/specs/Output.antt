@@ -121,7 +121,8 @@ WritesAll runs form input status old new = (bytes : List ℕ) × Gives runs form
 abbrev pub IsAnswer : (Script → StandingAtWork → Type 0) → Form → Status → List ℕ → Option (List ℕ) → Option (List ℕ) → Type 0
 IsAnswer runs form Ok input old new = WritesAll runs form input Ok old new
 IsAnswer runs form Refused input old new = WritesAll runs form input Refused old new
-IsAnswer runs form WriteFault input old new = (status : Status) × (bytes : List ℕ) × Gives runs form input status bytes × AppendsPrefix old new bytes
+IsAnswer runs form WriteFault input old new = (status : Status) ×
+    (bytes : List ℕ) × Gives runs form input status bytes × AppendsPrefix old new bytes
 IsAnswer runs form ReadFault input old new = Keeps old new
 IsAnswer runs form Memory input old new = Keeps old new
 IsAnswer runs form Words input old new = Keeps old new

@@ -16,7 +16,8 @@ pub fn refuse_script<K: Sink>(input: &[u8], line: u32, why: TextWhy, sink: &mut 
     requires { first_fault input.now ≡ Some (line, why) }
     ensures run { IsAnswer IsRunOfAtWork Form.Run result input.now (K.written sink.old) (K.written sink.new) }
     ensures image { IsAnswer IsRunOfAtWork Form.Image result input.now (K.written sink.old) (K.written sink.new) }
-    ensures check { is_image input.now ≡ false → IsAnswer IsRunOfAtWork Form.Check result input.now (K.written sink.old) (K.written sink.new) }
+    ensures check { is_image input.now ≡ false
+        → IsAnswer IsRunOfAtWork Form.Check result input.now (K.written sink.old) (K.written sink.new) }
     ensures end { (result ≡ Status.Refused) ⊎ (result ≡ Status.WriteFault) }
     ensures nothing { WritesNothing result → sink.new ≡ sink.old }
     ensures fault { IsWriteFault result (K.faults sink.old) (K.faults sink.new) }
@@ -31,7 +32,8 @@ pub fn refuse_script<K: Sink>(input: &[u8], line: u32, why: TextWhy, sink: &mut 
 pub fn refuse_image<K: Sink>(input: &[u8], refusal: Refusal, sink: &mut K) -> Status
     requires { image_fault input.now ≡ Some refusal }
     ensures dump { IsAnswer IsRunOfAtWork Form.Dump result input.now (K.written sink.old) (K.written sink.new) }
-    ensures check { is_image input.now ≡ true → IsAnswer IsRunOfAtWork Form.Check result input.now (K.written sink.old) (K.written sink.new) }
+    ensures check { is_image input.now ≡ true
+        → IsAnswer IsRunOfAtWork Form.Check result input.now (K.written sink.old) (K.written sink.new) }
     ensures end { (result ≡ Status.Refused) ⊎ (result ≡ Status.WriteFault) }
     ensures nothing { WritesNothing result → sink.new ≡ sink.old }
     ensures fault { IsWriteFault result (K.faults sink.old) (K.faults sink.new) }

@@ -12,7 +12,8 @@ use Rattle.app_ends.specs.declared.status.Status.{Status}
 use Rattle.app_ends.specs.declared.status.Status.TheVariants.{Words}
 
 pub program_of : (words : List (List ℕ)) (form : Form) (status : Status) (items : List ℕ) (old new : Option (List ℕ))
-    → AreWordsOf words form → status ≢ Words → IsAnswer IsRunOfAtWork form status items old new → IsProgram IsRunOfAtWork words status items old new
+    → AreWordsOf words form → status ≢ Words → IsAnswer IsRunOfAtWork form status items old new → IsProgram IsRunOfAtWork words status
+    items old new
 program_of words form Words items old new are other answer = absurd (other refl)
 program_of words form _ items old new are other answer = (form, are, answer)
 
@@ -77,4 +78,8 @@ leaves_all (Some xs) words n status are other = leaves_of words (Load n) status 
 pub load_of : (words : List (List ℕ)) (m : ℕ) (status : Status) (old new : Option (List ℕ)) → AreWordsOf words (Load m) → IsLoadEnd status
     → ((input : List ℕ) → IsAnswer IsRunOfAtWork (Load m) status input old new) → IsLoad IsRunOfAtWork words status old new
 load_of words m status old new are end answer =
-    λ n input other. (end, subst (λ k. IsAnswer IsRunOfAtWork (Load k) status input old new) (loads_once words m n are other) (answer input))
+    λ n input other. (
+      end,
+      subst (λ k. IsAnswer IsRunOfAtWork (Load k) status input old new) (loads_once words m n are other)
+          (answer input),
+    )

@@ -90,7 +90,8 @@ impl World {
         ensures fixed { self.new.fixed ≡ self.old.fixed }
         ensures done { OnTrue result (CarriesOutAtWork self.old.fixed self.old.work (left_of line.now number) self.new.work) }
         ensures overlong { OnFalse result (StopsInAtWork self.old.fixed self.old.work (left_of line.now number) self.new.work) }
-        ensures room_left { (r : Room) → HasRoomFor (room_in self.old.work) (with_room (needs_line line.now) r) → HasRoomFor (room_in self.new.work) r }
+        ensures room_left { (r : Room) → HasRoomFor (room_in self.old.work) (with_room (needs_line line.now) r)
+            → HasRoomFor (room_in self.new.work) r }
     {
         match line {
             Line::Order(event, count) => {

@@ -76,13 +76,13 @@ use usb_base::{Sink, Source};
 /// Each microframe of a script's run ends, after at most 17,957,823 events of the controller, each followed by one of the driver; so
 /// every line is carried out, and what is reported stands after the whole run.
 ///
-/// At each moment of a script's run, clears and all, what is placed keeps the budgets of bus time, and with no clear under way the open
-/// of a periodic endpoint is refused for want of a placement exactly where no allowed one fits beside it. The controller's next event reads and writes words of Lent blocks
-/// alone, and what the driver's next event gives back is Free right after it. Just the blocks of what the driver still needs are Lent,
-/// each run of them with one owner, but for what its unfinished command has still to lend. Each frame of the driver's list has the
-/// queue heads of the interrupt endpoints that are placed in it, each once and no others, those of cancelled endpoints until they are
-/// unlinked, and of each isochronous endpoint at most one descriptor that waits. A cancelled endpoint stays placed until it is given
-/// back.
+/// At each moment of a script's run, clears and all, what is placed keeps the budgets of bus time, and with no clear under way the
+/// open of a periodic endpoint is refused for want of a placement exactly where no allowed one fits beside it. The controller's next
+/// event reads and writes words of Lent blocks alone, and what the driver's next event gives back is Free right after it. Just the
+/// blocks of what the driver still needs are Lent, each run of them with one owner, but for what its unfinished command has still to
+/// lend. Each frame of the driver's list has the queue heads of the interrupt endpoints that are placed in it, each once and no
+/// others, those of cancelled endpoints until they are unlinked, and of each isochronous endpoint at most one descriptor that waits. A
+/// cancelled endpoint stays placed until it is given back.
 ///
 /// And at each such moment, whatever endpoints it opens and cancels, the words of the ring stand for its live queue heads, each once, and
 /// those of the frame list and of its members for the driver's list, also while a structure is linked or unlinked; words 1 and 2 of the
