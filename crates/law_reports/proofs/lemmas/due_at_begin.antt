@@ -42,4 +42,11 @@ pub mod Resting
 pub mod RestingMoments
 pub mod FollowSampled
 pub mod Written
+pub mod WrittenMoments
 pub mod StartedMoments
+pub mod FrameMasks
+pub mod SplitOrder
+pub mod FrameIndex
+pub mod RestingMicroframes
+pub mod NotYet
+pub mod SplitFrames

@@ -1,5 +1,5 @@
 -- The world that the Begin of a microframe left is one of the moments of a script's run, or that of a Begin before all lines.
-use Rattle.std.proofs.Common.{ℕ, zero, suc, List, [], ◌∷◌, sym, subst}
+use Rattle.std.proofs.Common.{◌≡◌, ℕ, zero, suc, List, [], ◌∷◌, ap, refl, sym, subst, ◌∙◌, inl, inr, ◌⊎◌}
 use Rattle.script_types.specs.declared.scripts.Event.TheVariants as events
 use Rattle.script_types.specs.declared.scripts.Script.{Script}
 use Rattle.hc_core.specs.declared.controller.ControllerRow.{ControllerRow}
@@ -44,3 +44,50 @@ so_as_begun P s first each (suc k) =
     subst (λ (b : World). P (controller_next (fixed_of s) b)) (sym (carried_then began_by s (opening_world s) k))
     (by_orders P (fixed_of s) (began s k) (moment s k).world (so_as_begun P s first each k) (moment s k).orders
     (subst (λ (o : OrderedWorld). P o.world) (moment_then s k) (each (suc k))))
+
+-- ---- one more event or command
+
+-- a microframe begins with it, or not
+pub record BeginsThen (fixed : Fixed) (w later before after : World) : Type 0 where
+  pub row : controller_row w ≡ rows.Begin
+  pub world : later ≡ controller_next fixed w
+  pub begun : after ≡ controller_next fixed w
+
+abbrev pub BeginsNow : Script → ℕ → Type 0
+BeginsNow s k = BeginsThen (fixed_of s) (moment s k).world (moment s (suc k)).world (begun s k) (begun s (suc k))
+
+module _ (fixed : Fixed) (b w : World) where
+  abbrev Then : World → World → Type 0
+  Then later after =
+      (controller_next fixed after ≡ controller_next fixed b)
+      ⊎ BeginsThen fixed w later (controller_next fixed b) (controller_next fixed after)
+
+  then_row : (r : ControllerRow) → controller_row w ≡ r → Then (controller_next fixed w) (began_at r w b)
+  then_row rows.Begin is = inr (record { row = is; world = refl; begun = refl })
+  then_row rows.Idle is = inl refl
+  then_row rows.Frame is = inl refl
+  then_row rows.Enter is = inl refl
+  then_row rows.Go is = inl refl
+  then_row rows.End is = inl refl
+
+  then_orders : (orders : List Left) → Then (tick_at fixed w orders).world (carried_in began_by fixed w orders b)
+  then_orders [] = inl refl
+  then_orders (Events event zero ∷ rest) = inl refl
+  then_orders (Events events.C (suc n) ∷ rest) = then_row (controller_row w) refl
+  then_orders (Events events.D (suc n) ∷ rest) = inl refl
+  then_orders (Microframes zero ∷ rest) = inl refl
+  then_orders (Microframes (suc n) ∷ rest) = then_row (controller_row w) refl
+  then_orders (Answer ended n ∷ rest) = inl refl
+  then_orders (Command n cmd ∷ rest) = inl refl
+  then_orders (Plugs there port ∷ rest) = inl refl
+
+pub begun_then : (s : Script) (k : ℕ) → (begun s (suc k) ≡ begun s k) ⊎ BeginsNow s k
+begun_then s k =
+    subst (λ (b : World). (controller_next (fixed_of s) b ≡ begun s k)
+    ⊎ BeginsThen (fixed_of s) (moment s k).world (moment s (suc k)).world (begun s k) (controller_next (fixed_of s) b))
+    (sym (carried_then began_by s (opening_world s) k))
+    (subst (λ (o : OrderedWorld). (controller_next (fixed_of s) (carried_in began_by (fixed_of s) (moment s k).world (moment s k).orders
+    (began s k)) ≡ begun s k)
+    ⊎ BeginsThen (fixed_of s) (moment s k).world o.world (begun s k)
+    (controller_next (fixed_of s) (carried_in began_by (fixed_of s) (moment s k).world (moment s k).orders (began s k))))
+    (sym (moment_then s k)) (then_orders (fixed_of s) (began s k) (moment s k).world (moment s k).orders))

@@ -111,7 +111,7 @@ pub record IsResting (w : World) (e q : ℕ) (p : Placement) (v : Qh) : Type 0 w
   pub stands : StandsAs w.memory (32 * q) v
   pub hand : HandRests w (32 * q) v
 
-none_apart : (w : World) (n : ℕ) → w.control.frame.hand ≡ None → (a : ℕ) → w.control.part ≡ Periodic
+pub none_apart : (w : World) (n : ℕ) → w.control.frame.hand ≡ None → (a : ℕ) → w.control.part ≡ Periodic
     → held_address w.control.frame.hand ≡ Some a → n ≢ a
 none_apart w n none a on is = absurd (none_some a (sym (ap held_address none) ∙ is))
 

@@ -84,7 +84,7 @@ module _ (fixed : Fixed) (x : Sides) (b w : World) (t : SoFar) (k : IsKnown fixe
         (record { control = command_control w n cmd; bus = command_bus w n cmd; leaves = leaves })
         (λ r. command_in_frames w k.mixed n cmd e q p l r.frames off)
 
-    rests_then : (orders : List Left) → IsMixedWorld (tick_at fixed w orders).world
+    pub rests_then : (orders : List Left) → IsMixedWorld (tick_at fixed w orders).world
         → HeadsHaveFields (tick_at fixed w orders).world.driver (tick_at fixed w orders).world.memory
         → KeepsToOwners (is_controllers orders) (controller_parts w) (tick_at fixed w orders).world.memory
         → IsUncancelled (tick_at fixed w orders).world.driver e → IsResting w e q p v → IsResting (tick_at fixed w orders).world e q p v
@@ -99,7 +99,7 @@ module _ (fixed : Fixed) (x : Sides) (b w : World) (t : SoFar) (k : IsKnown fixe
     rests_then (Plugs there port ∷ rest) l heads_then owns off r = r
 
 -- what isn't cancelled then wasn't before
-uncancelled_then : (fixed : Fixed) (w : World) (e : ℕ) (orders : List Left) → IsUncancelled (tick_at fixed w orders).world.driver e
+pub uncancelled_then : (fixed : Fixed) (w : World) (e : ℕ) (orders : List Left) → IsUncancelled (tick_at fixed w orders).world.driver e
     → IsUncancelled w.driver e
 uncancelled_then fixed w e [] off = off
 uncancelled_then fixed w e (Events event zero ∷ rest) off = off
@@ -113,12 +113,12 @@ uncancelled_then fixed w e (Plugs there port ∷ rest) off = off
 
 -- ---- a run
 
-classic : (x : Speed) → (speed_field x == 2) ≡ false → is_classic x ≡ true
+pub classic : (x : Speed) → (speed_field x == 2) ≡ false → is_classic x ≡ true
 classic speeds.High is = absurd (true≢false is)
 classic speeds.Full is = refl
 classic speeds.Low is = refl
 
-out_apart : (w : World) (n : ℕ) → IsOutOfHand w n → (a : ℕ) → w.control.part ≡ Periodic → held_address w.control.frame.hand ≡ Some a
+pub out_apart : (w : World) (n : ℕ) → IsOutOfHand w n → (a : ℕ) → w.control.part ≡ Periodic → held_address w.control.frame.hand ≡ Some a
     → n ≢ a
 out_apart w n out a on is same = out on (is ∙ ap Some (sym same))
 
@@ -136,7 +136,7 @@ part_begin r f Over is on = over_not_periodic on
 part_begin r f Asynchronous is on = asynchronous_not_periodic on
 part_begin r f Periodic is on = frame_begin (r.periodic_enable && not (is_over f)) r.async_enable is
 
-begin_part : (run : Bool) (r : RegisterFile) (f : Walk) (part : MicroframePart)
+pub begin_part : (run : Bool) (r : RegisterFile) (f : Walk) (part : MicroframePart)
     → (if run then part_row r f part else rows.Idle) ≡ rows.Begin → part ≢ Periodic
 begin_part true r f part is = part_begin r f part is
 begin_part false r f part is = cc

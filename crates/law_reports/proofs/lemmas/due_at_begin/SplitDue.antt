@@ -209,16 +209,13 @@ module _ (fixed : Fixed) (b : World) (k : IsMixedWorld b) (heads : HeadsHaveFiel
           bus = bus;
         }
 
-  made_due : (d : IsCompleteDue fixed b e q)
-      → IsDueOf fixed b e q d.split.there.endpoint.desc Anything (IsCompleted d.split.queue (32 * q) b.control.frame.index)
-  made_due d =
-      let x : IsSplitAtBegin fixed b e q = d.split in
+  pub complete_leaves : (d : IsCompleteDue fixed b e q)
+      → Leaves d Anything (IsCompleted d.split.queue (32 * q) b.control.frame.index) tt
+  complete_leaves d z same head c hears any out last is =
       let f : ℕ = b.control.frame.index in
       let u : ℕ = microframe_of b.control.frame.index in
-      let v : Qh = x.queue in
-      let wait : IsWaitingSplit x.queue = waiting_split x.queue d.waiting in
-      complete_due d Anything (IsCompleted d.split.queue (32 * q) b.control.frame.index) tt
-      (λ z same head c hears any out last is.
+      let v : Qh = d.split.queue in
+      let wait : IsWaitingSplit d.split.queue = waiting_split d.split.queue d.waiting in
       let m : IsCompleted z (32 * q) f (made_as_due f (32 * q) z out last (reply_to fixed c z out last)) =
       complete_made f (32 * q) z out last (reply_to fixed c z out last) (ap (λ (n : ℕ). n == 2) same.eps ∙ wait.low)
       (waits_same v z same ∙ d.waiting) (missed_same f v z same ∙ d.unmissed) is in
@@ -227,7 +224,12 @@ module _ (fixed : Fixed) (b : World) (k : IsMixedWorld b) (heads : HeadsHaveFiel
         progress = m.progress ∙ ap (λ (n : ℕ). with_bit n u) same.progress;
         frame = m.frame;
         goes_on = λ nyet more. m.goes_on nyet (ap (λ (mask : ℕ). is_last mask u) same.cmask ∙ more);
-      })
+      }
+
+  made_due : (d : IsCompleteDue fixed b e q)
+      → IsDueOf fixed b e q d.split.there.endpoint.desc Anything (IsCompleted d.split.queue (32 * q) b.control.frame.index)
+  made_due d =
+      complete_due d Anything (IsCompleted d.split.queue (32 * q) b.control.frame.index) tt (complete_leaves d)
 
 -- ---- the law
 

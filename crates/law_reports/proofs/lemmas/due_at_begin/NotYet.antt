@@ -1,0 +1,114 @@
+-- A complete-split that is due and is answered NYET before the last microframe of its C-mask comes to nothing but to wait (EHCI 1.0,
+-- 4.12.2.4.2).
+use Rattle.std.proofs.Common.{◌≡◌, ◌≢◌, ℕ, ◌*◌, ◌≤◌, Bool, true, false, List, [], ◌∷◌, ap, refl, sym, ◌∙◌, inl, inr, ◌⊎◌}
+use Rattle.std.specs.Prelude.{◌==◌}
+use Rattle.std.proofs.lemmas.Bool.{cases_Bool}
+use Rattle.usb_base.specs.declared.packets.Pid.{Pid}
+use Rattle.usb_base.specs.declared.packets.Pid.TheVariants as pids
+use Rattle.usb_base.specs.declared.packets.Reply.{Reply}
+use Rattle.usb_base.specs.declared.packets.Reply.TheVariants as replies
+use Rattle.script_types.specs.declared.scripts.Script.{Script}
+use Rattle.script_text.specs.Faults.{Spells}
+use Rattle.qh_qtd.specs.declared.queue_head.Qh.{Qh}
+use Rattle.qh_qtd.specs.declared.token.Token.{Token}
+use Rattle.toggle_error.specs.declared.host.Outcome.TheVariants.{Wait}
+use Rattle.hc_copy.specs.Transacting.{outcome_in}
+use Rattle.hc_copy.specs.declared.held.Transaction.{Transaction}
+use Rattle.hc_masks.specs.Masks.{is_last, with_bit}
+use Rattle.hc_interrupt.specs.Turns.{microframe_of, tag_of, waits, planned}
+use Rattle.bus_wire.specs.Bus.{Fixed, fixed_of}
+use Rattle.bus_world.specs.Budgets.{moment}
+use Rattle.bus_world.specs.World.{World}
+use Rattle.claims_world.specs.DueAtBegin.{begun, IsUncancelled}
+use Rattle.claims_world.specs.QueuesMade.{QueueMade, queues_made, HasMade}
+use Rattle.claims_world.specs.SplitsAtBegin.{IsCompleteDue, IsCompleted}
+use Rattle.claims_world.specs.Visits.{IsPastFrames}
+use Rattle.claims_world.specs.WithinLoad.{repeats}
+use Rattle.law_world.specs.memory.Mixed.{IsMixedWorld}
+use Rattle.law_microframes.specs.visits.Belonging.{HeadsHaveFields}
+use Rattle.law_reports.specs.due_at_begin.SplitFrames.{IsAnswer, IsNotYet}
+use Rattle.law_reports.proofs.lemmas.due_at_begin.Answered.{complete_of, is_complete}
+use Rattle.law_reports.proofs.lemmas.due_at_begin.SplitDue.{Anything, complete_due, complete_leaves}
+use Rattle.law_reports.proofs.lemmas.due_at_begin.SplitMoments.{IsDueOf, splits_are_made}
+use Rattle.law_reports.proofs.lemmas.due_at_begin.SplitStages.{reply_to}
+use Rattle.law_reports.proofs.lemmas.due_at_begin.SplitTurns.{IsWaitingSplit, waiting_split}
+use Rattle.law_reports.proofs.lemmas.due_at_begin.WrittenMoments.{LeavesWaiting}
+
+-- ---- a transaction
+
+pub record IsAskedOnce (q : Qh) (n f : ℕ) (m : QueueMade) : Type 0 where
+  pub completed : IsCompleted q n f m
+  pub wait : m.heard ≡ replies.Hand pids.Nyet → is_last q.cmask (microframe_of f) ≡ false → m.outcome ≡ Wait
+
+not_yet_waits : (q : Qh) (out : List ℕ) (last : Bool) (reply : Reply) → (q.eps == 2) ≡ false → q.token.split_state ≡ true
+    → reply ≡ replies.Hand pids.Nyet → last ≡ false → outcome_in (planned q) out last reply ≡ Wait
+not_yet_waits q out last reply low split nyet more =
+    ap (λ (t : Transaction). outcome_in t out last reply) (is_complete q low split)
+    ∙ ap (outcome_in (complete_of q) out last) nyet
+    ∙ ap (λ (b : Bool). outcome_in (complete_of q) out b (replies.Hand pids.Nyet)) more
+
+asked_due : (fixed : Fixed) (b : World) (k : IsMixedWorld b) (heads : HeadsHaveFields b.driver b.memory) (e q : ℕ)
+    (d : IsCompleteDue fixed b e q)
+    → IsDueOf fixed b e q d.split.there.endpoint.desc Anything (IsAskedOnce d.split.queue (32 * q) b.control.frame.index)
+asked_due fixed b k heads e q d =
+    let w : IsWaitingSplit d.split.queue = waiting_split d.split.queue d.waiting in
+    complete_due fixed b k heads e q d Anything (IsAskedOnce d.split.queue (32 * q) b.control.frame.index) tt
+    (λ z same head c hears any out last is. record {
+      completed = complete_leaves fixed b k heads e q d z same head c hears any out last is;
+      wait = λ nyet more.
+          not_yet_waits z out last (reply_to fixed c z out last) (ap (λ (n : ℕ). n == 2) same.eps ∙ w.low)
+          (ap (λ (t : Token). t.split_state) same.token ∙ w.split) nyet
+          (is ∙ ap (λ (mask : ℕ). is_last mask (microframe_of b.control.frame.index)) same.cmask ∙ more);
+    })
+
+-- ---- what is heard
+
+is_nyet : Reply → Bool
+is_nyet (replies.Hand pids.Nyet) = true
+is_nyet _ = false
+
+pub nyet_or_not : (r : Reply) → (r ≡ replies.Hand pids.Nyet) ⊎ (r ≢ replies.Hand pids.Nyet)
+nyet_or_not (replies.Hand pids.Nyet) = inl refl
+nyet_or_not r = inr (λ is. cc is)
+
+-- it was answered, it was the last one, or it waits further
+pub data GoesOn (q : Qh) (n f : ℕ) (ms : List QueueMade) : Type 0 where
+  is_answered : HasMade (IsAnswer n) ms → GoesOn q n f ms
+  was_last : is_last q.cmask (microframe_of f) ≡ true → HasMade (IsNotYet n) ms → GoesOn q n f ms
+  is_left : (z : Qh) → HasMade (LeavesWaiting n z) ms → HasMade (IsNotYet n) ms → z.c_prog ≡ with_bit q.c_prog (microframe_of f)
+      → z.frame_tag ≡ tag_of f → GoesOn q n f ms
+
+more_on : (q : Qh) (n f : ℕ) (m : QueueMade) (ms : List QueueMade) → GoesOn q n f ms → GoesOn q n f (m ∷ ms)
+more_on q n f m ms (is_answered a) = is_answered (inr a)
+more_on q n f m ms (was_last last a) = was_last last (inr a)
+more_on q n f m ms (is_left z left a progress tag) = is_left z (inr left) (inr a) progress tag
+
+module _ (q : Qh) (n f : ℕ) (m : QueueMade) (ms : List QueueMade) (a : IsAskedOnce q n f m) where
+  not_yet : m.heard ≡ replies.Hand pids.Nyet → (b : Bool) → is_last q.cmask (microframe_of f) ≡ b → GoesOn q n f (m ∷ ms)
+  not_yet nyet true last = was_last last (inl (record { at = a.completed.at; told = nyet }))
+  not_yet nyet false last =
+      is_left m.queue
+      (inl (record { at = a.completed.at; queue = refl; waiting = a.completed.goes_on nyet last; wait = a.wait nyet last }))
+      (inl (record { at = a.completed.at; told = nyet })) a.completed.progress a.completed.frame
+
+  by_heard : (m.heard ≡ replies.Hand pids.Nyet) ⊎ (m.heard ≢ replies.Hand pids.Nyet) → GoesOn q n f (m ∷ ms)
+  by_heard (inl nyet) = not_yet nyet (is_last q.cmask (microframe_of f)) refl
+  by_heard (inr told) = is_answered (inl (record { at = a.completed.at; told = told }))
+
+found_on : (q : Qh) (n f : ℕ) (ms : List QueueMade) → HasMade (IsAskedOnce q n f) ms → GoesOn q n f ms
+found_on q n f [] was = absurd was
+found_on q n f (m ∷ ms) (inl a) = by_heard q n f m ms a (nyet_or_not m.heard)
+found_on q n f (m ∷ ms) (inr was) = more_on q n f m ms (found_on q n f ms was)
+
+-- ---- in a run
+
+pub completes_go_on : (text : List ℕ) (s : Script) → Spells text s → (k e q : ℕ) → IsPastFrames (moment s k).world
+    → repeats s k ≤ 4000000 → (d : IsCompleteDue (fixed_of s) (begun s k) e q) → IsUncancelled (moment s k).world.driver e
+    → GoesOn d.split.queue (32 * q) (begun s k).control.frame.index (queues_made s k)
+completes_go_on text s spelled k e q past few d off =
+    found_on d.split.queue (32 * q) (begun s k).control.frame.index (queues_made s k)
+    (splits_are_made text s spelled (IsCompleteDue (fixed_of s)) (λ b x y due. due.split.there.endpoint.desc) (λ b x y due. Anything)
+    (λ b x y due. IsAskedOnce due.split.queue (32 * y) b.control.frame.index)
+    (λ b mixed heads sends x y due. asked_due (fixed_of s) b mixed heads x y due)
+    (λ sides at lines hs w piped named b x y due z here kind same c goes had. tt) (λ x y due. cc due.split.there.here) k e q past few d
+    off)
