@@ -7,6 +7,7 @@
 //! - `sitds_worked`: Worked rows of a speaker and of a microphone behind a hub.
 //! - `slots`: Each slot of an isochronous transfer descriptor that was due as its microframe began is done too.
 //! - `slots_worked`: Worked rows of a microphone.
+//! - `split_frames_worked`: Worked rows of a keyboard behind a hub, along a frame.
 //! - `splits`: Each start-split and each complete-split of an interrupt endpoint that was due as its microframe began is made in it.
 //! - `splits_worked`: Worked rows of a keyboard behind a hub.
 //! - `stored`: What was asked of an isochronous endpoint for a frame is due in it.
@@ -21,6 +22,7 @@ pub mod sitds;
 pub mod sitds_worked;
 pub mod slots;
 pub mod slots_worked;
+pub mod split_frames_worked;
 pub mod splits;
 pub mod splits_worked;
 pub mod stored;

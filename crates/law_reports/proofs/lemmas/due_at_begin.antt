@@ -50,3 +50,10 @@ pub mod FrameIndex
 pub mod RestingMicroframes
 pub mod NotYet
 pub mod SplitFrames
+pub mod HeadMasks
+pub mod EntryStages
+pub mod EntryKept
+pub mod EntryEvents
+pub mod EntryFrames
+pub mod SplitsTold
+pub mod SplitFrameSampled

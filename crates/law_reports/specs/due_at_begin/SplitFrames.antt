@@ -1,28 +1,43 @@
--- The complete-splits of an interrupt endpoint below a hub follow its start-split in the frame, until one is answered (EHCI 1.0, 4.12.2.1 and
--- 4.12.2.4; USB 2.0, 11.18 and 11.20).
+-- The complete-splits of an interrupt endpoint below a hub follow its start-split in the frame, until one is answered (EHCI 1.0, 4.12.2.1
+-- and 4.12.2.4; USB 2.0, 11.18 and 11.20).
 --     IsOneFrame s i k           from moment i to moment k of the run of a script it is one frame, in each microframe of which the bus may
 --                                be used; and no more than 4 microseconds of one went for complete-splits that were made again
 --     IsAnswer n m               the transaction m is that of the queue head at n, in which the host heard something other than NYET
 --     IsNotYet n m               .. in which it heard NYET
---     HasAnswer s i k n          so the queue head at n had an answer in the walk of the frames of a microframe, from moment i on and before
---                                moment k
+--     HasAnswer s i k n          so the queue head at n had an answer in the walk of the frames of a microframe, from moment i on and
+--                                before moment k
 --     CompletesFollow s          where a start-split was due as a microframe began, and the endpoint isn't cancelled: in each later
---                                microframe of the frame that stands in its C-mask it had an answer before, or a complete-split of it is due
---                                as that microframe begins
+--                                microframe of the frame that stands in its C-mask it had an answer before, or a complete-split of it is
+--                                due as that microframe begins
 --     CompletesAreAnswered s     .. and once the walk of the frames is over in that microframe it had an answer, or is to ask again
---     KeepsSplitFrames s         both
+--     IsEntryOf b x entry        this is the entry of endpoint x in the pipeline of its translator
+--     HasCome b x                .. and the whole start-split has come
+--     IsHeardThroughout s i k x  from moment i to moment k the hub of endpoint x has never heard last to clear a buffer or to reset a
+--                                translator, and in each microframe neither the next complete-split of it is lost, nor its answer
+--     HasTold s i k n x          in a complete-split from moment i on and before moment k the host heard what the device answered
+--     DevicesAreHeard s          where a start-split was due as a microframe began, and has come once the walk of the frames is over in it,
+--                                so it is by the end of the walk of the frames in the last microframe of its C-mask in the frame
+--     KeepsSplitFrames s         all of this
 --     TextsKeepSplitFrames       so it is of each script that a text spells
-use Rattle.std.specs.Prelude.{◌≡◌, ◌≢◌, ℕ, suc, List, ◌/◌, ◌*◌, ◌≤◌, ◌<◌, ◌⊎◌, true, false}
+use Rattle.std.specs.Prelude.{◌≡◌, ◌≢◌, ℕ, suc, List, ◌/◌, ◌*◌, ◌≤◌, ◌<◌, ◌⊎◌, true, false, Some}
+use Rattle.std.specs.List.{find}
+use Rattle.usb_base.specs.declared.endpoints.EpDesc.{EpDesc}
+use Rattle.usb_base.specs.declared.packets.EpKind.TheVariants.{Interrupt}
 use Rattle.usb_base.specs.declared.packets.Pid.TheVariants.{Nyet}
 use Rattle.usb_base.specs.declared.packets.Reply.TheVariants.{Hand}
 use Rattle.script_types.specs.declared.scripts.Script.{Script}
 use Rattle.script_text.specs.Faults.{Spells}
 use Rattle.bandwidth.specs.Placements.{has}
 use Rattle.hc_interrupt.specs.Turns.{microframe_of}
-use Rattle.bus_wire.specs.Bus.{fixed_of}
+use Rattle.tt_pipeline.specs.declared.entry.Entry.{Entry}
+use Rattle.tt_pipeline.specs.Starting.{has_key}
+use Rattle.bus_wire.specs.Bus.{Bus, fixed_of}
 use Rattle.bus_world.specs.Budgets.{moment}
+use Rattle.claims_world.specs.Behind.{key_for, pipeline_for}
+use Rattle.claims_world.specs.BelowStreams.{IsSparedAt}
 use Rattle.claims_world.specs.DueAtBegin.{begun, IsUncancelled}
 use Rattle.claims_world.specs.QueuesMade.{QueueMade, queues_made, HasMade}
+use Rattle.claims_world.specs.Results.{IsNextHeard, IsLastIn, IsToldBy}
 use Rattle.claims_world.specs.SplitsAtBegin.{IsStartDue, IsCompleteDue}
 use Rattle.claims_world.specs.Visits.{IsPastFrames, is_held_now}
 use Rattle.claims_world.specs.WithinLoad.{repeats}
@@ -61,9 +76,41 @@ CompletesAreAnswered s = (i k e q : ℕ) → i ≤ k → (d : IsStartDue (fixed_
     → IsPastFrames (moment s k).world
     → HasAnswer s i (suc k) (32 * q) ⊎ HasMade (IsNotYet (32 * q)) (queues_made s k)
 
+-- ---- what the device answered
+
+pub record IsEntryOf (b : Bus) (x : EpDesc) (entry : Entry) : Type 0 where
+  pub hub : ℕ
+  pub behind : x.hub ≡ Some hub
+  pub there : find (has_key (key_for x)) (pipeline_for b.hubs hub x.port) ≡ Some entry
+
+pub record HasCome (b : Bus) (x : EpDesc) : Type 0 where
+  pub entry : Entry
+  pub is : IsEntryOf b x entry
+  pub kind : entry.ask.kind ≡ Interrupt
+  pub whole : entry.came.whole ≡ true
+
+pub record IsHeardThroughout (s : Script) (i k : ℕ) (x : EpDesc) : Type 0 where
+  pub spared : (j : ℕ) → i ≤ j → j ≤ k → IsSparedAt s x j
+  pub heard : (j : ℕ) → i ≤ j → j ≤ k → IsNextHeard (fixed_of s) (begun s j).bus x
+
+pub record HasTold (s : Script) (i k n : ℕ) (x : EpDesc) : Type 0 where
+  pub at : ℕ
+  pub from : i ≤ at
+  pub before : at < k
+  pub entry : Entry
+  pub is : IsEntryOf (begun s at).bus x entry
+  pub made : HasMade (IsToldBy n entry) (queues_made s at)
+
+abbrev pub DevicesAreHeard : Script → Type 0
+DevicesAreHeard s = (i k e q : ℕ) → i ≤ k → IsPastFrames (moment s i).world → (d : IsStartDue (fixed_of s) (begun s i) e q)
+    → HasCome (moment s i).world.bus d.split.there.endpoint.desc → IsOneFrame s i k → IsHeardThroughout s i k d.split.there.endpoint.desc
+    → IsUncancelled (moment s k).world.driver e → IsLastIn d.split.placement.cmask (microframe_of (begun s k).control.frame.index)
+    → IsPastFrames (moment s k).world → HasTold s i (suc k) (32 * q) d.split.there.endpoint.desc
+
 pub record KeepsSplitFrames (s : Script) : Type 0 where
   pub follow : CompletesFollow s
   pub answered : CompletesAreAnswered s
+  pub told : DevicesAreHeard s
 
 abbrev pub TextsKeepSplitFrames : Type 0
 TextsKeepSplitFrames = (text : List ℕ) (s : Script) → Spells text s → KeepsSplitFrames s

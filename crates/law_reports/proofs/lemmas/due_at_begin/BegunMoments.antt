@@ -1,5 +1,6 @@
 -- The world that the Begin of a microframe left is one of the moments of a script's run, or that of a Begin before all lines.
-use Rattle.std.proofs.Common.{◌≡◌, ℕ, zero, suc, List, [], ◌∷◌, ap, refl, sym, subst, ◌∙◌, inl, inr, ◌⊎◌}
+use Rattle.std.proofs.Common.{◌≡◌, ◌≢◌, ℕ, zero, suc, List, [], ◌∷◌, ap, refl, sym, subst, ◌∙◌, inl, inr, ◌⊎◌}
+use Rattle.usb_base.specs.declared.commands.Cmd.{Cmd}
 use Rattle.script_types.specs.declared.scripts.Event.TheVariants as events
 use Rattle.script_types.specs.declared.scripts.Script.{Script}
 use Rattle.hc_core.specs.declared.controller.ControllerRow.{ControllerRow}
@@ -8,7 +9,7 @@ use Rattle.bus_wire.specs.Bus.{Fixed, fixed_of}
 use Rattle.bus_world.specs.Budgets.{moment}
 use Rattle.bus_world.specs.Opening.{opening_world}
 use Rattle.bus_world.specs.Orders.{Left, Events, Microframes, Answer, Command, Plugs, OrderedWorld, tick_at, ticks}
-use Rattle.bus_world.specs.World.{World, controller_row, controller_next}
+use Rattle.bus_world.specs.World.{World, controller_row, controller_next, driver_next, commanded}
 use Rattle.claims_world.specs.Carried.{carried_from, carried_in}
 use Rattle.claims_world.specs.DueAtBegin.{begun}
 use Rattle.claims_world.specs.Visits.{began_at, began_by, began}
@@ -56,38 +57,54 @@ pub record BeginsThen (fixed : Fixed) (w later before after : World) : Type 0 wh
 abbrev pub BeginsNow : Script → ℕ → Type 0
 BeginsNow s k = BeginsThen (fixed_of s) (moment s k).world (moment s (suc k)).world (begun s k) (begun s (suc k))
 
+-- what the next event or command is; no microframe begins but with the first
+pub data Goes (fixed : Fixed) (w later before after : World) : Type 0 where
+  begins : BeginsThen fixed w later before after → Goes fixed w later before after
+  by_controller : controller_row w ≢ rows.Begin → later ≡ controller_next fixed w → after ≡ before → Goes fixed w later before after
+  by_driver : later ≡ driver_next w → after ≡ before → Goes fixed w later before after
+  by_command : (n : ℕ) (cmd : Cmd) → later ≡ commanded w n cmd → after ≡ before → Goes fixed w later before after
+  stays : later ≡ w → after ≡ before → Goes fixed w later before after
+
+abbrev pub GoesNow : Script → ℕ → Type 0
+GoesNow s k = Goes (fixed_of s) (moment s k).world (moment s (suc k)).world (begun s k) (begun s (suc k))
+
 module _ (fixed : Fixed) (b w : World) where
   abbrev Then : World → World → Type 0
-  Then later after =
-      (controller_next fixed after ≡ controller_next fixed b)
-      ⊎ BeginsThen fixed w later (controller_next fixed b) (controller_next fixed after)
+  Then later after = Goes fixed w later (controller_next fixed b) (controller_next fixed after)
 
   then_row : (r : ControllerRow) → controller_row w ≡ r → Then (controller_next fixed w) (began_at r w b)
-  then_row rows.Begin is = inr (record { row = is; world = refl; begun = refl })
-  then_row rows.Idle is = inl refl
-  then_row rows.Frame is = inl refl
-  then_row rows.Enter is = inl refl
-  then_row rows.Go is = inl refl
-  then_row rows.End is = inl refl
+  then_row rows.Begin is = begins (record { row = is; world = refl; begun = refl })
+  then_row rows.Idle is = by_controller (λ begin. let never : rows.Idle ≡ rows.Begin = sym is ∙ begin in cc never) refl refl
+  then_row rows.Frame is = by_controller (λ begin. let never : rows.Frame ≡ rows.Begin = sym is ∙ begin in cc never) refl refl
+  then_row rows.Enter is = by_controller (λ begin. let never : rows.Enter ≡ rows.Begin = sym is ∙ begin in cc never) refl refl
+  then_row rows.Go is = by_controller (λ begin. let never : rows.Go ≡ rows.Begin = sym is ∙ begin in cc never) refl refl
+  then_row rows.End is = by_controller (λ begin. let never : rows.End ≡ rows.Begin = sym is ∙ begin in cc never) refl refl
 
   then_orders : (orders : List Left) → Then (tick_at fixed w orders).world (carried_in began_by fixed w orders b)
-  then_orders [] = inl refl
-  then_orders (Events event zero ∷ rest) = inl refl
+  then_orders [] = stays refl refl
+  then_orders (Events event zero ∷ rest) = stays refl refl
   then_orders (Events events.C (suc n) ∷ rest) = then_row (controller_row w) refl
-  then_orders (Events events.D (suc n) ∷ rest) = inl refl
-  then_orders (Microframes zero ∷ rest) = inl refl
+  then_orders (Events events.D (suc n) ∷ rest) = by_driver refl refl
+  then_orders (Microframes zero ∷ rest) = stays refl refl
   then_orders (Microframes (suc n) ∷ rest) = then_row (controller_row w) refl
-  then_orders (Answer ended n ∷ rest) = inl refl
-  then_orders (Command n cmd ∷ rest) = inl refl
-  then_orders (Plugs there port ∷ rest) = inl refl
+  then_orders (Answer ended n ∷ rest) = by_driver refl refl
+  then_orders (Command n cmd ∷ rest) = by_command n cmd refl refl
+  then_orders (Plugs there port ∷ rest) = stays refl refl
 
-pub begun_then : (s : Script) (k : ℕ) → (begun s (suc k) ≡ begun s k) ⊎ BeginsNow s k
-begun_then s k =
-    subst (λ (b : World). (controller_next (fixed_of s) b ≡ begun s k)
-    ⊎ BeginsThen (fixed_of s) (moment s k).world (moment s (suc k)).world (begun s k) (controller_next (fixed_of s) b))
+pub goes_now : (s : Script) (k : ℕ) → GoesNow s k
+goes_now s k =
+    subst (λ (b : World). Goes (fixed_of s) (moment s k).world (moment s (suc k)).world (begun s k) (controller_next (fixed_of s) b))
     (sym (carried_then began_by s (opening_world s) k))
-    (subst (λ (o : OrderedWorld). (controller_next (fixed_of s) (carried_in began_by (fixed_of s) (moment s k).world (moment s k).orders
-    (began s k)) ≡ begun s k)
-    ⊎ BeginsThen (fixed_of s) (moment s k).world o.world (begun s k)
+    (subst (λ (o : OrderedWorld). Goes (fixed_of s) (moment s k).world o.world (begun s k)
     (controller_next (fixed_of s) (carried_in began_by (fixed_of s) (moment s k).world (moment s k).orders (began s k))))
     (sym (moment_then s k)) (then_orders (fixed_of s) (began s k) (moment s k).world (moment s k).orders))
+
+pub begun_then : (s : Script) (k : ℕ) → (begun s (suc k) ≡ begun s k) ⊎ BeginsNow s k
+begun_then s k = by (goes_now s k)
+  where
+    by : GoesNow s k → (begun s (suc k) ≡ begun s k) ⊎ BeginsNow s k
+    by (begins n) = inr n
+    by (by_controller off world same) = inl same
+    by (by_driver world same) = inl same
+    by (by_command n cmd world same) = inl same
+    by (stays world same) = inl same

@@ -1,5 +1,5 @@
--- At each moment of a script's run the walk of the frames has the FRINDEX of the registers: it rises by one as a microframe begins, and stays
--- from then on (EHCI 1.0, 2.3.4 and 4.4).
+-- At each moment of a script's run the walk of the frames has the FRINDEX of the registers: it rises by one as a microframe begins, and
+-- stays from then on (EHCI 1.0, 2.3.4 and 4.4).
 use Rattle.std.proofs.Common.{◌≡◌, ◌≢◌, ℕ, zero, suc, ◌+◌, ◌/◌, ◌%◌, ◌<◌, List, [], ◌∷◌, Result, Ok, Err, ap, refl, sym, subst, ◌∙◌, arith}
 use Rattle.usb_base.specs.declared.commands.Cmd.{Cmd}
 use Rattle.usb_base.specs.declared.endpoints.EpName.{EpName}
@@ -57,7 +57,7 @@ module _ (fixed : Fixed) (w : World) (shows : ShowsIndex w) where
       index_stays begins_by transacts_by (controller_parts w) (wired fixed w) (controller_parts (controller_next fixed w))
       (wired fixed (controller_next fixed w)) (controller_row w) other (world_has_row fixed w)
 
-  begins_shown : controller_row w ≡ rows.Begin → IsMixedWorld (controller_next fixed w) → HasFrameIndex (controller_next fixed w)
+  pub begins_shown : controller_row w ≡ rows.Begin → IsMixedWorld (controller_next fixed w) → HasFrameIndex (controller_next fixed w)
       → ShowsIndex (controller_next fixed w)
   begins_shown row l has = has (begins_walk fixed w row l).periodic
 

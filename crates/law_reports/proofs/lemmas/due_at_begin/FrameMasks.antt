@@ -1,6 +1,7 @@
--- The masks of an interrupt endpoint below a hub along a frame: in the microframe after its start-split, and in the one after each microframe
--- in which its complete-split was made or none comes, none was missed (EHCI 1.0, 4.12.2.1 and 4.12.2.4.1).
-use Rattle.std.proofs.Common.{◌≡◌, ℕ, zero, suc, ◌+◌, ◌/◌, ◌%◌, ◌^◌, ◌<◌, ◌≤◌, Bool, true, false, not, List, [], ◌∷◌, map, ap, refl, sym, subst, ◌∙◌}
+-- The masks of an interrupt endpoint below a hub along a frame: in the microframe after its start-split, and in the one after each
+-- microframe in which its complete-split was made or none comes, none was missed (EHCI 1.0, 4.12.2.1 and 4.12.2.4.1).
+use Rattle.std.proofs.Common.{◌≡◌, ℕ, zero, suc, ◌+◌, ◌/◌, ◌%◌, ◌^◌, ◌<◌, ◌≤◌, Bool, true, false, not, List, [], ◌∷◌, map, ap, refl, sym}
+use Rattle.std.proofs.Common.{subst, ◌∙◌}
 use Rattle.std.proofs.Common.{⊎_elim, inl, inr, ◌⊎◌, arith, if◌then◌else◌}
 use Rattle.std.specs.Prelude.{◌==◌, ◌&&◌, ◌||◌}
 use Rattle.std.proofs.lemmas.Bool.{cases_Bool, eqb-true, eq-eqb, false≢true, true≢false}

@@ -28,7 +28,7 @@ use Rattle.law_world.specs.memory.Mixed.{IsMixedWorld}
 use Rattle.law_microframes.specs.visits.Belonging.{HeadsHaveFields}
 use Rattle.law_reports.specs.due_at_begin.SplitFrames.{IsAnswer, IsNotYet}
 use Rattle.law_reports.proofs.lemmas.due_at_begin.Answered.{complete_of, is_complete}
-use Rattle.law_reports.proofs.lemmas.due_at_begin.SplitDue.{Anything, complete_due, complete_leaves}
+use Rattle.law_reports.proofs.lemmas.due_at_begin.SplitDue.{Anything, Leaves, complete_due, complete_leaves}
 use Rattle.law_reports.proofs.lemmas.due_at_begin.SplitMoments.{IsDueOf, splits_are_made}
 use Rattle.law_reports.proofs.lemmas.due_at_begin.SplitStages.{reply_to}
 use Rattle.law_reports.proofs.lemmas.due_at_begin.SplitTurns.{IsWaitingSplit, waiting_split}
@@ -47,19 +47,25 @@ not_yet_waits q out last reply low split nyet more =
     ∙ ap (outcome_in (complete_of q) out last) nyet
     ∙ ap (λ (b : Bool). outcome_in (complete_of q) out b (replies.Hand pids.Nyet)) more
 
-asked_due : (fixed : Fixed) (b : World) (k : IsMixedWorld b) (heads : HeadsHaveFields b.driver b.memory) (e q : ℕ)
+pub asked_leaves : (fixed : Fixed) (b : World) (k : IsMixedWorld b) (heads : HeadsHaveFields b.driver b.memory) (e q : ℕ)
     (d : IsCompleteDue fixed b e q)
-    → IsDueOf fixed b e q d.split.there.endpoint.desc Anything (IsAskedOnce d.split.queue (32 * q) b.control.frame.index)
-asked_due fixed b k heads e q d =
+    → Leaves fixed b k heads e q d Anything (IsAskedOnce d.split.queue (32 * q) b.control.frame.index) tt
+asked_leaves fixed b k heads e q d z same head c hears any out last is =
     let w : IsWaitingSplit d.split.queue = waiting_split d.split.queue d.waiting in
-    complete_due fixed b k heads e q d Anything (IsAskedOnce d.split.queue (32 * q) b.control.frame.index) tt
-    (λ z same head c hears any out last is. record {
+    record {
       completed = complete_leaves fixed b k heads e q d z same head c hears any out last is;
       wait = λ nyet more.
           not_yet_waits z out last (reply_to fixed c z out last) (ap (λ (n : ℕ). n == 2) same.eps ∙ w.low)
           (ap (λ (t : Token). t.split_state) same.token ∙ w.split) nyet
           (is ∙ ap (λ (mask : ℕ). is_last mask (microframe_of b.control.frame.index)) same.cmask ∙ more);
-    })
+    }
+
+asked_due : (fixed : Fixed) (b : World) (k : IsMixedWorld b) (heads : HeadsHaveFields b.driver b.memory) (e q : ℕ)
+    (d : IsCompleteDue fixed b e q)
+    → IsDueOf fixed b e q d.split.there.endpoint.desc Anything (IsAskedOnce d.split.queue (32 * q) b.control.frame.index)
+asked_due fixed b k heads e q d =
+    complete_due fixed b k heads e q d Anything (IsAskedOnce d.split.queue (32 * q) b.control.frame.index) tt
+    (asked_leaves fixed b k heads e q d)
 
 -- ---- what is heard
 
@@ -71,40 +77,48 @@ pub nyet_or_not : (r : Reply) → (r ≡ replies.Hand pids.Nyet) ⊎ (r ≢ repl
 nyet_or_not (replies.Hand pids.Nyet) = inl refl
 nyet_or_not r = inr (λ is. cc is)
 
--- it was answered, it was the last one, or it waits further
-pub data GoesOn (q : Qh) (n f : ℕ) (ms : List QueueMade) : Type 0 where
-  is_answered : HasMade (IsAnswer n) ms → GoesOn q n f ms
-  was_last : is_last q.cmask (microframe_of f) ≡ true → HasMade (IsNotYet n) ms → GoesOn q n f ms
+-- it was answered so, it was the last one, or it waits further
+pub data GoesOn (A : Type 0) (q : Qh) (n f : ℕ) (ms : List QueueMade) : Type 0 where
+  is_answered : A → GoesOn A q n f ms
+  was_last : is_last q.cmask (microframe_of f) ≡ true → HasMade (IsNotYet n) ms → GoesOn A q n f ms
   is_left : (z : Qh) → HasMade (LeavesWaiting n z) ms → HasMade (IsNotYet n) ms → z.c_prog ≡ with_bit q.c_prog (microframe_of f)
-      → z.frame_tag ≡ tag_of f → GoesOn q n f ms
+      → z.frame_tag ≡ tag_of f → GoesOn A q n f ms
 
-more_on : (q : Qh) (n f : ℕ) (m : QueueMade) (ms : List QueueMade) → GoesOn q n f ms → GoesOn q n f (m ∷ ms)
-more_on q n f m ms (is_answered a) = is_answered (inr a)
-more_on q n f m ms (was_last last a) = was_last last (inr a)
-more_on q n f m ms (is_left z left a progress tag) = is_left z (inr left) (inr a) progress tag
+pub more_on : (A B : Type 0) (q : Qh) (n f : ℕ) (m : QueueMade) (ms : List QueueMade) → (A → B) → GoesOn A q n f ms
+    → GoesOn B q n f (m ∷ ms)
+more_on A B q n f m ms more (is_answered a) = is_answered (more a)
+more_on A B q n f m ms more (was_last last a) = was_last last (inr a)
+more_on A B q n f m ms more (is_left z left a progress tag) = is_left z (inr left) (inr a) progress tag
 
-module _ (q : Qh) (n f : ℕ) (m : QueueMade) (ms : List QueueMade) (a : IsAskedOnce q n f m) where
-  not_yet : m.heard ≡ replies.Hand pids.Nyet → (b : Bool) → is_last q.cmask (microframe_of f) ≡ b → GoesOn q n f (m ∷ ms)
-  not_yet nyet true last = was_last last (inl (record { at = a.completed.at; told = nyet }))
-  not_yet nyet false last =
+module _ (A : Type 0) (q : Qh) (n f : ℕ) (m : QueueMade) (ms : List QueueMade) (a : IsAskedOnce q n f m)
+    (nyet : m.heard ≡ replies.Hand pids.Nyet) where
+  by_last : (b : Bool) → is_last q.cmask (microframe_of f) ≡ b → GoesOn A q n f (m ∷ ms)
+  by_last true last = was_last last (inl (record { at = a.completed.at; told = nyet }))
+  by_last false last =
       is_left m.queue
       (inl (record { at = a.completed.at; queue = refl; waiting = a.completed.goes_on nyet last; wait = a.wait nyet last }))
       (inl (record { at = a.completed.at; told = nyet })) a.completed.progress a.completed.frame
 
-  by_heard : (m.heard ≡ replies.Hand pids.Nyet) ⊎ (m.heard ≢ replies.Hand pids.Nyet) → GoesOn q n f (m ∷ ms)
-  by_heard (inl nyet) = not_yet nyet (is_last q.cmask (microframe_of f)) refl
-  by_heard (inr told) = is_answered (inl (record { at = a.completed.at; told = told }))
+  pub not_yet : GoesOn A q n f (m ∷ ms)
+  not_yet = by_last (is_last q.cmask (microframe_of f)) refl
 
-found_on : (q : Qh) (n f : ℕ) (ms : List QueueMade) → HasMade (IsAskedOnce q n f) ms → GoesOn q n f ms
-found_on q n f [] was = absurd was
-found_on q n f (m ∷ ms) (inl a) = by_heard q n f m ms a (nyet_or_not m.heard)
-found_on q n f (m ∷ ms) (inr was) = more_on q n f m ms (found_on q n f ms was)
+module _ (q : Qh) (n f : ℕ) where
+  by_heard : (m : QueueMade) (ms : List QueueMade) → IsAskedOnce q n f m
+      → (m.heard ≡ replies.Hand pids.Nyet) ⊎ (m.heard ≢ replies.Hand pids.Nyet) → GoesOn (HasMade (IsAnswer n) (m ∷ ms)) q n f (m ∷ ms)
+  by_heard m ms a (inl nyet) = not_yet (HasMade (IsAnswer n) (m ∷ ms)) q n f m ms a nyet
+  by_heard m ms a (inr told) = is_answered (inl (record { at = a.completed.at; told = told }))
+
+  found_on : (ms : List QueueMade) → HasMade (IsAskedOnce q n f) ms → GoesOn (HasMade (IsAnswer n) ms) q n f ms
+  found_on [] was = absurd was
+  found_on (m ∷ ms) (inl a) = by_heard m ms a (nyet_or_not m.heard)
+  found_on (m ∷ ms) (inr was) =
+      more_on (HasMade (IsAnswer n) ms) (HasMade (IsAnswer n) (m ∷ ms)) q n f m ms (λ a. inr a) (found_on ms was)
 
 -- ---- in a run
 
 pub completes_go_on : (text : List ℕ) (s : Script) → Spells text s → (k e q : ℕ) → IsPastFrames (moment s k).world
     → repeats s k ≤ 4000000 → (d : IsCompleteDue (fixed_of s) (begun s k) e q) → IsUncancelled (moment s k).world.driver e
-    → GoesOn d.split.queue (32 * q) (begun s k).control.frame.index (queues_made s k)
+    → GoesOn (HasMade (IsAnswer (32 * q)) (queues_made s k)) d.split.queue (32 * q) (begun s k).control.frame.index (queues_made s k)
 completes_go_on text s spelled k e q past few d off =
     found_on d.split.queue (32 * q) (begun s k).control.frame.index (queues_made s k)
     (splits_are_made text s spelled (IsCompleteDue (fixed_of s)) (λ b x y due. due.split.there.endpoint.desc) (λ b x y due. Anything)

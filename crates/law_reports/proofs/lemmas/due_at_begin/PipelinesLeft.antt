@@ -1,6 +1,7 @@
 -- A transaction of the host for another endpoint than a hub's own leaves the entry of each other key in the pipelines of all translators
 -- (USB 2.0, 11.14, 11.17 and 11.18).
-use Rattle.std.proofs.Common.{◌≡◌, ◌≢◌, ℕ, zero, suc, ◌==◌, Bool, true, false, List, [], ◌∷◌, slice_get, slice_set, Option, Some, None, ap, refl}
+use Rattle.std.proofs.Common.{◌≡◌, ◌≢◌, ℕ, zero, suc, ◌==◌, Bool, true, false, List, [], ◌∷◌, slice_get, slice_set, Option, Some, None}
+use Rattle.std.proofs.Common.{ap, refl}
 use Rattle.std.proofs.Common.{sym, subst, ◌∙◌}
 use Rattle.std.specs.List.{find}
 use Rattle.std.specs.Option.{option_map, option_map_or, option_and_then}
@@ -46,7 +47,7 @@ module _ (R : List Entry → List Entry → Type 0) (same : (es : List Entry) �
   in_set (x ∷ xs) zero t u here one = (subst (λ (o : Translator). R o.pipeline u.pipeline) (sym (same_Some x t here)) one, in_same xs)
   in_set (x ∷ xs) (suc j) t u here one = (same x.pipeline, in_set xs j t u here one)
 
-  in_changed : (o : Option ℕ) (f : Translator → Translator) (ts : List Translator) → ((t : Translator) → R t.pipeline (f t).pipeline)
+  pub in_changed : (o : Option ℕ) (f : Translator → Translator) (ts : List Translator) → ((t : Translator) → R t.pipeline (f t).pipeline)
       → BesideIn R ts (changed_place o f ts)
   in_changed None f ts keeps = in_same ts
   in_changed (Some place) f ts keeps = by (slice_get ts place) refl
@@ -55,13 +56,13 @@ module _ (R : List Entry → List Entry → Type 0) (same : (es : List Entry) �
       by None here = in_same ts
       by (Some t) here = in_set ts place t (f t) here (keeps t)
 
-  abbrev Hub : HubContent → HubContent → Type 0
+  abbrev pub Hub : HubContent → HubContent → Type 0
   Hub x y = (x.address ≡ y.address) × ((x.translators.multi ≡ y.translators.multi) × BesideIn R x.translators.all y.translators.all)
 
-  hub_same : (h : HubContent) → Hub h h
+  pub hub_same : (h : HubContent) → Hub h h
   hub_same h = (refl, (refl, in_same h.translators.all))
 
-  hubs_same : (hs : List HubContent) → Beside R hs hs
+  pub hubs_same : (hs : List HubContent) → Beside R hs hs
   hubs_same [] = tt
   hubs_same (h ∷ hs) = (refl, (refl, (in_same h.translators.all, hubs_same hs)))
 
@@ -72,7 +73,7 @@ module _ (R : List Entry → List Entry → Type 0) (same : (es : List Entry) �
       (is.0, (is.1.0, (is.1.1, hubs_same xs)))
   hubs_set (x ∷ xs) (suc i) h g here one = (refl, (refl, (in_same x.translators.all, hubs_set xs i h g here one)))
 
-  hubs_put : (hs : List HubContent) (place : ℕ) (f : HubContent → HubContent) → ((h : HubContent) → Hub h (f h))
+  pub hubs_put : (hs : List HubContent) (place : ℕ) (f : HubContent → HubContent) → ((h : HubContent) → Hub h (f h))
       → Beside R hs (changed_in place f hs)
   hubs_put hs place f keeps = by (slice_get hs place) refl
     where

@@ -1,5 +1,5 @@
--- Along a run a queue head that waits as a microframe begins in which there is nothing to do for it stands so until the next one begins (EHCI
--- 1.0, 4.12.2.4).
+-- Along a run a queue head that waits as a microframe begins in which there is nothing to do for it stands so until the next one begins
+-- (EHCI 1.0, 4.12.2.4).
 use Rattle.std.proofs.Common.{◌≡◌, ℕ, zero, suc, ◌*◌, ◌<◌, true, List, Some, ap, sym, subst, ◌∙◌, ⊎_elim}
 use Rattle.law_microframes.proofs.Common.{in_list}
 use Rattle.script_types.specs.declared.scripts.Script.{Script}

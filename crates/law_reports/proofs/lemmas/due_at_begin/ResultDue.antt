@@ -111,7 +111,7 @@ module _ (fixed : Fixed) (zeroes : AreHubsZero fixed) (x : Sides) (s : Standing)
         a.other (told_apart w.driver (in_hand s) s.parts m.reported k.telling.told a.number e a.endpoint z a.here here
         (name_is a.endpoint.desc.name z.desc.name (sym addr) (sym num) (sym way)))
 
-    other_key : is_same_key (key_of ask) (key_for z.desc) ≡ false
+    pub other_key : is_same_key (key_of ask) (key_for z.desc) ≡ false
     other_key = by (is_same_key (key_of ask) (key_for z.desc)) refl
       where
         by : (b : Bool) → is_same_key (key_of ask) (key_for z.desc) ≡ b → is_same_key (key_of ask) (key_for z.desc) ≡ false
@@ -142,7 +142,7 @@ module _ (fixed : Fixed) (zeroes : AreHubsZero fixed) (x : Sides) (s : Standing)
     number : ask.ep ≢ 0
     number none = numbered a.endpoint.desc.kind a.endpoint.desc.name (named a.number a.endpoint a.here) a.one (sym a.place ∙ none)
 
-  answer_beside : (c : Bus) → BusGoes fixed w e c → HasAnswer fixed w.bus z.desc reply → HasAnswer fixed c z.desc reply
+  pub answer_beside : (c : Bus) → BusGoes fixed w e c → HasAnswer fixed w.bus z.desc reply → HasAnswer fixed c z.desc reply
   answer_beside c (is_quiet bus) had = subst (λ (b : Bus). HasAnswer fixed b z.desc reply) (sym bus) had
   answer_beside c (is_asked ask out other bus) had =
       subst (λ (b : Bus). HasAnswer fixed b z.desc reply) (sym bus)
@@ -195,7 +195,7 @@ module _ (fixed : Fixed) (b : World) (k : IsMixedWorld b) (heads : HeadsHaveFiel
     abbrev reply_in : Transaction → Reply
     reply_in t = reply_of fixed c (call_in t out last).ask (call_in t out last).out
 
-    heard : reply_to fixed c u out last ≡ d.reply
+    pub heard : reply_to fixed c u out last ≡ d.reply
     heard =
         ap reply_in (is_complete u low split)
         ∙ reply_heard fixed c d.complete.split.there.endpoint.desc d.reply has hears d.complete.split.there.kind one_way_of u its pid out
@@ -229,7 +229,7 @@ module _ (fixed : Fixed) (b : World) (k : IsMixedWorld b) (heads : HeadsHaveFiel
 
 -- ---- the law
 
-answers_are_heard : (text : List ℕ) (s : Script) → Spells text s → AnswersAreHeard s
+pub answers_are_heard : (text : List ℕ) (s : Script) → Spells text s → AnswersAreHeard s
 answers_are_heard text s spelled k e q past few d off =
     splits_are_made text s spelled (IsAnswerDue (fixed_of s)) (λ b x y due. due.complete.split.there.endpoint.desc)
     (λ b x y due c. HasAnswer (fixed_of s) c due.complete.split.there.endpoint.desc due.reply) (λ b x y due. IsAnswered (32 * y) due.reply)

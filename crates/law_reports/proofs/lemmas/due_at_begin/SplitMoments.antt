@@ -403,20 +403,19 @@ module _ (D : World → ℕ → ℕ → Type 0) (X : (b : World) (e q : ℕ) →
 
 -- ---- a run
 
+pub are_known : (text : List ℕ) (s : Script) → Spells text s → (k : ℕ) → AreKnown (fixed_of s) (moment s k).world
+are_known text s spelled k = record {
+  named = λ e y here. (its_name text s spelled y.desc (moments_are_opened s (spelled_fits text s spelled) k e y here)).name;
+  sized = λ e y here. let u = texts_stand text s spelled k e y here in record { max = u.max; port = u.port };
+  hears = λ e y here low carries. texts_are_heard text s spelled k e y here low carries;
+}
+
 module _ (text : List ℕ) (s : Script) (spelled : Spells text s) (D : World → ℕ → ℕ → Type 0)
     (X : (b : World) (e q : ℕ) → D b e q → EpDesc) (B : (b : World) (e q : ℕ) → D b e q → Bus → Type 0)
     (P : (b : World) (e q : ℕ) → D b e q → QueueMade → Type 0) (comes : Comes D X B P (fixed_of s))
     (stays : StaysBeside D X B P (fixed_of s)) (none : (e q : ℕ) → D (controller_next (fixed_of s) (opening_world s)) e q → ⊥) where
   abbrev AreAt : World → World → SoFar → List QueueMade → ℕ → Type 0
   AreAt b w t ms again = AreSplitsWaiting D X B P (fixed_of s) b w t ms again
-
-  are_known : (k : ℕ) → AreKnown (fixed_of s) (moment s k).world
-  are_known k = record {
-    named = λ e y here.
-        (its_name text s spelled y.desc (moments_are_opened s (spelled_fits text s spelled) k e y here)).name;
-    sized = λ e y here. let u = texts_stand text s spelled k e y here in record { max = u.max; port = u.port };
-    hears = λ e y here low carries. texts_are_heard text s spelled k e y here low carries;
-  }
 
   timely_at : (k : ℕ) → IsInTime (fixed_of s) (repeats s k) (moment s k).world
   timely_at k = (texts_are_in_time text s spelled).each k
@@ -445,7 +444,7 @@ module _ (text : List ℕ) (s : Script) (spelled : Spells text s) (D : World →
       (carried_in repeats_next (fixed_of s) (moment s k).world (moment s k).orders (repeats s k)))
       (sym (carried_then began_by s (opening_world s) k))
       (splits_wait_then D X B P (fixed_of s) comes stays (sides_of s) (began s k) (moment s k).world (so_far s k) (queues_made s k)
-      (repeats s k) (known_at text s spelled k) (are_known k) (timely_at k) (waits_at k) (moment s k).orders (mixed_then text s spelled k)
+      (repeats s k) (known_at text s spelled k) (are_known text s spelled k) (timely_at k) (waits_at k) (moment s k).orders (mixed_then text s spelled k)
       (heads_then_at text s spelled k) (owned_at text s spelled k))))))
 
   -- where the walk is over nothing is in hand

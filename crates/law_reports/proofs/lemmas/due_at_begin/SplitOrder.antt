@@ -1,5 +1,6 @@
 -- The complete-splits of an interrupt endpoint below a hub come after its start-split in the frame (EHCI 1.0, 4.12.2.1; USB 2.0, 11.18).
-use Rattle.std.proofs.Common.{◌≡◌, ℕ, ◌+◌, ◌/◌, ◌<◌, ◌≤◌, Bool, true, false, List, [], ◌∷◌, map, slice_get, Some, sym, subst, ◌∙◌, arith, ap}
+use Rattle.std.proofs.Common.{◌≡◌, ℕ, ◌+◌, ◌/◌, ◌<◌, ◌≤◌, Bool, true, false, List, [], ◌∷◌, map, slice_get, Some, sym, subst, ◌∙◌, arith}
+use Rattle.std.proofs.Common.{ap}
 use Rattle.std.specs.Prelude.{◌&&◌, nat_le, nat_lt, if◌then◌else◌}
 use Rattle.std.specs.List.{AllByRecursion, flat_map}
 use Rattle.std.proofs.lemmas.Bool.Decides.{nat_tests}
@@ -39,9 +40,11 @@ one_in s m is = grind (arith, nat_tests)
 
 -- ---- the placements of an interrupt endpoint
 
--- no microframe of the C-mask comes before one of the S-mask, nor is it one
+-- no microframe of the C-mask comes before the second after that of the S-mask, and one alone stands in the S-mask
 pub record StartsFirst (p : Placement) : Type 0 where
   pub none : (u v : ℕ) → u < 8 → has p.smask u ≡ true → v ≤ u → has p.cmask v ≡ false
+  pub gap : (u v : ℕ) → u < 8 → v < 8 → has p.smask u ≡ true → has p.cmask v ≡ true → u + 2 ≤ v
+  pub once : (u v : ℕ) → u < 8 → v < 8 → has p.smask u ≡ true → has p.smask v ≡ true → u ≡ v
 
 abbrev MasksIn : PlacementRow → ℕ → ℕ → ℕ → Placement
 MasksIn r period phase s = record { period = period; phase = phase; smask = r.smask s; cmask = r.cmask s }
@@ -52,6 +55,16 @@ interrupt_first period phase s = record {
       let high = one_in s u (sym (has_run s 1 u small) ∙ on) in
       let below : v < 8 = omega (arith, small, less) in
       has_run (s + 2) 3 v below ∙ under_run (s + 2) 3 v (omega (arith, less, high));
+  gap = λ u v small low on other.
+      let high = one_in s u (sym (has_run s 1 u small) ∙ on) in
+      let from = in_run (s + 2) 3 v (sym (has_run (s + 2) 3 v low) ∙ other) in
+      omega (arith, high, from);
+  once = λ u v small low on other.
+      let a = one_in s u (sym (has_run s 1 u small) ∙ on) in
+      let b = one_in s v (sym (has_run s 1 v low) ∙ other) in
+      let c = in_run s 1 u (sym (has_run s 1 u small) ∙ on) in
+      let d = in_run s 1 v (sym (has_run s 1 v low) ∙ other) in
+      omega (arith, a, b, c, d);
 }
 
 row_first : (w : Want) (phase s : ℕ) → is_classic w.speed ≡ true → w.kind ≡ kinds.Interrupt → StartsFirst (placement_at w phase s)

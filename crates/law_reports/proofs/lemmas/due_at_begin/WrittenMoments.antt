@@ -1,6 +1,6 @@
 -- Along a run a queue head that waits for its next complete-split after a transaction of the microframe stands in memory as it was written
 -- back, and the walk of the frames doesn't come to it again in the microframe (EHCI 1.0, 4.10.3 and 4.12.2.4).
-use Rattle.std.proofs.Common.{◌≡◌, ◌≢◌, ℕ, zero, suc, ◌*◌, ◌≤◌, true, List, [], ◌∷◌, Option, Some, None, ap, refl, sym}
+use Rattle.std.proofs.Common.{◌≡◌, ◌≢◌, ℕ, zero, suc, ◌*◌, ◌≤◌, true, List, [], ◌∷◌, slice_get, Option, Some, None, ap, refl, sym}
 use Rattle.std.proofs.Common.{subst, ◌∙◌, ⊎_elim, inl, inr, ◌⊎◌}
 use Rattle.std.proofs.lemmas.Bool.{cases_eq}
 use Rattle.std.proofs.lemmas.Option.{same_Some}
@@ -17,6 +17,7 @@ use Rattle.toggle_error.specs.declared.host.Outcome.TheVariants.{Wait}
 use Rattle.bandwidth.specs.declared.placements.Placement.{Placement}
 use Rattle.bandwidth.specs.Sums.{is_active}
 use Rattle.mem_queues.specs.Structures.{queue_head_at_address}
+use Rattle.drv_table.specs.declared.content.Endpoint.{Endpoint}
 use Rattle.hc_interrupt.specs.Turns.{waits}
 use Rattle.periodic_walk.specs.declared.chain.ChainRow.{ChainRow}
 use Rattle.periodic_walk.specs.declared.state.Hand.{Hand}
@@ -108,6 +109,7 @@ pub record HasLeft (w : World) (n : ℕ) (x : Qh) (vs : List ℕ) : Type 0 where
 
 pub record IsSince (b w : World) (ms : List QueueMade) (vs : List ℕ) (e q : ℕ) (p : Placement) : Type 0 where
   pub frames : IsInItsFrames w.driver e q p
+  pub same : (y : Endpoint) → slice_get b.driver.endpoints e ≡ Some y → frames.endpoint.desc ≡ y.desc
   pub index : w.control.frame.index ≡ b.control.frame.index
   pub seen : w.control.part ≡ Periodic → held_address w.control.frame.hand ≡ Some (32 * q) → HasVisited (32 * q) vs
   pub left : (x : Qh) → HasMade (LeavesWaiting (32 * q) x) ms → HasLeft w (32 * q) x vs
@@ -247,6 +249,7 @@ module _ (fixed : Fixed) (x : Sides) (b w : World) (t : SoFar) (k : IsKnown fixe
         (visits_at w.control.frame.hand (chain_row w.memory w.control.frame.cursor) vs) e q p
     frame_since = record {
       frames = o.frames;
+      same = o.same;
       index = index_on (λ is. let never : rows.Frame ≡ rows.Begin = sym row ∙ is in cc never) ∙ o.index;
       seen = λ on is. seen_then is;
       left = λ y m. by_made y w.control.frame.hand refl (kind_next w) m;
@@ -254,7 +257,7 @@ module _ (fixed : Fixed) (x : Sides) (b w : World) (t : SoFar) (k : IsKnown fixe
 
   -- ---- another event of the controller
 
-  part_then : (r : ControllerRow) → controller_row w ≡ r
+  pub part_then : (r : ControllerRow) → controller_row w ≡ r
       → HasRow begins_by transacts_by r (controller_parts w) (wired fixed w) (controller_parts (controller_next fixed w))
       (wired fixed (controller_next fixed w)) → r ≢ rows.Frame → r ≢ rows.Begin → (controller_next fixed w).control.part ≢ Periodic
   part_then rows.Begin is has other off on = off refl
@@ -272,6 +275,7 @@ module _ (fixed : Fixed) (x : Sides) (b w : World) (t : SoFar) (k : IsKnown fixe
       let over = part_then (controller_row w) refl (world_has_row fixed w) off_frames off_begin in
       record {
         frames = o.frames;
+        same = o.same;
         index = index_on off_begin ∙ o.index;
         seen = λ on is. absurd (over on);
         left = λ y m. let l = o.left y m in record {
@@ -290,6 +294,7 @@ module _ (fixed : Fixed) (x : Sides) (b w : World) (t : SoFar) (k : IsKnown fixe
     begins_since : controller_row w ≡ rows.Begin → IsMixedWorld (controller_next fixed w) → AreSince fixed w (controller_next fixed w) [] []
     begins_since row l e q p i active off = record {
       frames = i;
+      same = λ y here. ap (λ (z : Endpoint). z.desc) (same_Some i.endpoint y (sym i.here ∙ here));
       index = refl;
       seen = λ on is. absurd (none_some (32 * q) (sym (ap held_address (begins_walk fixed w row l).nothing) ∙ is));
       left = λ y m. absurd m;
@@ -359,6 +364,7 @@ module _ (fixed : Fixed) (x : Sides) (b w : World) (t : SoFar) (k : IsKnown fixe
           let s = still e q p o.frames off in
           record {
             frames = s.frames;
+            same = λ y here. s.same ∙ o.same y here;
             index = ap (λ (c : Control). c.frame.index) aside.control ∙ o.index;
             seen = λ on is.
                 o.seen (ap (λ (c : Control). c.part) (sym aside.control) ∙ on)

@@ -75,6 +75,28 @@ acted_address : (o : Option (List ℕ)) (h : HubContent) → (acted_with o h).ad
 acted_address None h = refl
 acted_address (Some setup) h = effect_address (request_at setup h) h
 
+if_address : (b : Bool) (h new : HubContent) → new.address ≡ h.address → (if b then new else h).address ≡ h.address
+if_address true h new its = its
+if_address false h new its = refl
+
+module _ (ask : Ask) where
+  answered_address : (out : List ℕ) (h : HubContent) → (hub_answered ask out h).address ≡ h.address
+  answered_address out h =
+      if_address (suits ask h) h (hub_answered_at ask out h)
+      (acted_address (acts_on (row_at ask out h) h.control.request)
+      (record h { control = stages_after (reply_under h) h.control ask out }))
+
+  acked_address : (h : HubContent) → (hub_acked ask h).address ≡ h.address
+  acked_address h = if_address (suits ask h) h (record h { control = stages_acked (reply_under h) h.control }) refl
+
+  pub address_after : (row : WhoHeard) (out : List ℕ) (h : HubContent) → (hub_after row ask out h).address ≡ h.address
+  address_after heard.SentUnheard out h = refl
+  address_after heard.NoAnswer out h = answered_address out h
+  address_after heard.AnswerUnheard out h = answered_address out h
+  address_after heard.AnswerHeard out h = answered_address out h
+  address_after heard.AckUnheard out h = answered_address out h
+  address_after heard.AckHeard out h = acked_address (hub_answered ask out h) ∙ answered_address out h
+
 module _ (a : ℕ) (ask : Ask) where
   unless : IsNotFor a ask → (h new : HubContent) (b : Bool) → suits ask h ≡ b → new.address ≡ h.address → IsUnheard a h
       → IsUnheard a (if b then new else h)

@@ -160,7 +160,7 @@ module _ (h : HubContent) (off : heard_clear h ≡ false) where
   acked_by true c x same = same
   acked_by false c x same = same
 
-  asked_keeps : (row : WhoHeard) (ask : Ask) (out : List ℕ) → (hub_after row ask out h).translators ≡ h.translators
+  pub asked_keeps : (row : WhoHeard) (ask : Ask) (out : List ℕ) → (hub_after row ask out h).translators ≡ h.translators
   asked_keeps heard.SentUnheard ask out = refl
   asked_keeps heard.NoAnswer ask out = answered_by (suits ask h) ask out
   asked_keeps heard.AnswerUnheard ask out = answered_by (suits ask h) ask out

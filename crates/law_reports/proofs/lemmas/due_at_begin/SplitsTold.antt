@@ -1,0 +1,366 @@
+-- By the last complete-split of its frame the host heard what the device answered, where the start-split came to the translator (EHCI 1.0,
+-- 4.12.2; USB 2.0, 11.18 and 11.20).
+use Rattle.std.proofs.Common.{◌≡◌, ◌≢◌, ℕ, zero, suc, ◌+◌, ◌*◌, ◌≤◌, ◌<◌, Bool, true, false, List, [], ◌∷◌, slice_get, Some, ap, refl}
+use Rattle.std.proofs.Common.{sym, subst, ◌∙◌}
+use Rattle.std.proofs.Common.{arith, ⊎_elim, inl, inr, ◌⊎◌, if◌then◌else◌}
+use Rattle.std.specs.Prelude.{nat_le}
+use Rattle.std.specs.List.{find, AllByRecursion}
+use Rattle.std.proofs.lemmas.Bool.{cases_Bool, cases_eq, true≢false}
+use Rattle.std.proofs.lemmas.Option.{same_Some}
+use Rattle.usb_base.specs.declared.endpoints.EpDesc.{EpDesc}
+use Rattle.usb_base.specs.declared.packets.EpKind.{EpKind}
+use Rattle.usb_base.specs.declared.packets.EpKind.TheVariants.{Interrupt}
+use Rattle.usb_base.specs.declared.packets.Pid.TheVariants.{Nyet}
+use Rattle.usb_base.specs.declared.packets.Reply.{Reply}
+use Rattle.usb_base.specs.declared.packets.Reply.TheVariants.{Hand}
+use Rattle.script_types.specs.declared.scripts.Script.{Script}
+use Rattle.script_text.specs.Faults.{Spells}
+use Rattle.hub_class.specs.HubContent.{HubContent}
+use Rattle.qh_qtd.specs.declared.queue_head.Qh.{Qh}
+use Rattle.tt_pipeline.specs.declared.entry.Entry.{Entry}
+use Rattle.tt_pipeline.specs.declared.entry.Exchange.{Exchange}
+use Rattle.tt_pipeline.specs.declared.entry.Exchange.TheVariants.{Ahead, Made}
+use Rattle.tt_pipeline.specs.declared.rows.AnswerRow.{AnswerRow}
+use Rattle.tt_pipeline.specs.declared.rows.AnswerRow.TheVariants.{Result, NotYet}
+use Rattle.tt_pipeline.specs.Answers.{made_row, row_at, answer_row, answer_at, answer_of, answer_from, complete_answer, result_of}
+use Rattle.tt_pipeline.specs.Starting.{has_key}
+use Rattle.tt_pipeline.specs.Work.{called_for}
+use Rattle.bandwidth.specs.declared.placements.Placement.{Placement}
+use Rattle.bandwidth.specs.Placements.{has}
+use Rattle.hc_interrupt.specs.Turns.{microframe_of}
+use Rattle.drv_table.specs.declared.content.Endpoint.{Endpoint}
+use Rattle.bus_wire.specs.Bus.{Bus, Fixed, fixed_of}
+use Rattle.bus_world.specs.Budgets.{moment}
+use Rattle.bus_world.specs.World.{World}
+use Rattle.claims_world.specs.Behind.{key_for, pipeline_for}
+use Rattle.claims_world.specs.BelowStreams.{heard_clear}
+use Rattle.claims_world.specs.DueAtBegin.{begun, IsUncancelled}
+use Rattle.claims_world.specs.QueuesMade.{QueueMade, queues_made, HasMade}
+use Rattle.claims_world.specs.Results.{IsNextHeard, HasAnswer as HasReply, IsAnswerDue, HasEntry, IsLastIn, IsLastDue, IsToldBy}
+use Rattle.claims_world.specs.SplitsAtBegin.{IsStartDue, IsCompleteDue}
+use Rattle.claims_world.specs.Visits.{IsPastFrames}
+use Rattle.claims_world.specs.WithinLoad.{repeats}
+use Rattle.law_world.specs.memory.Mixed.{IsMixedWorld}
+use Rattle.law_microframes.specs.time.DataQueues.{QueuesSendData}
+use Rattle.law_microframes.specs.visits.Belonging.{HeadsHaveFields}
+use Rattle.law_reports.specs.due_at_begin.SplitFrames.{IsOneFrame, IsEntryOf, HasCome, IsHeardThroughout, HasTold, DevicesAreHeard}
+use Rattle.law_reports.specs.due_at_begin.SplitFrames.{TextsKeepSplitFrames}
+use Rattle.law_reports.proofs.lemmas.due_at_begin.EntryFrames.{IsStagedIn, IsStagedFrom, staged_next}
+use Rattle.law_reports.proofs.lemmas.due_at_begin.EntryKept.{AreSpared}
+use Rattle.law_reports.proofs.lemmas.due_at_begin.EntryStages.{HasStaged}
+use Rattle.law_reports.proofs.lemmas.due_at_begin.NotYet.{IsAskedOnce, asked_leaves, nyet_or_not, GoesOn, is_answered, more_on, not_yet}
+use Rattle.law_reports.proofs.lemmas.due_at_begin.PipelinesLeft.{AreHubsZero}
+use Rattle.law_reports.proofs.lemmas.due_at_begin.HubSeats.{hubs_are_zero}
+use Rattle.law_reports.proofs.lemmas.due_at_begin.LastDue.{last_answers_are_there}
+use Rattle.law_reports.proofs.lemmas.due_at_begin.RestingMicroframes.{before_then}
+use Rattle.law_reports.proofs.lemmas.due_at_begin.ResultDue.{answer_beside, heard, answers_are_heard}
+use Rattle.law_reports.proofs.lemmas.due_at_begin.SplitDue.{complete_due}
+use Rattle.law_reports.proofs.lemmas.due_at_begin.SplitFrames.{Follows, had_answer, is_due, follows, its_complete, told, order_begun}
+use Rattle.law_reports.proofs.lemmas.due_at_begin.SplitFrames.{completes_follow, completes_are_answered}
+use Rattle.law_reports.proofs.lemmas.due_at_begin.SplitMoments.{IsDueOf, splits_are_made}
+use Rattle.law_reports.proofs.lemmas.due_at_begin.SplitOrder.{StartsFirst}
+use Rattle.law_reports.proofs.lemmas.due_at_begin.WrittenMoments.{IsSince, since_at}
+
+-- ---- a translator answers NYET, or what the device answered
+
+-- what the device answered, as it is told
+record IsDevices (e : Entry) (reply : Reply) : Type 0 where
+  answer : Reply
+  made : e.exchange ≡ Made answer
+  told : reply ≡ result_of answer
+
+module _ (e : Entry) (kind : e.ask.kind ≡ Interrupt) where
+  if_made : (b : Bool) (answer : Reply) → e.exchange ≡ Made answer → answer_row e ≡ (if b then Result else NotYet)
+      → answer_of e ≢ Hand Nyet → IsDevices e (answer_of e)
+  if_made true answer is row told = record {
+    answer = answer;
+    made = is;
+    told = ap (λ (r : AnswerRow). answer_at r e) row ∙ ap (λ (x : Exchange). answer_at Result (record e { exchange = x })) is;
+  }
+  if_made false answer is row told = absurd (told (ap (λ (r : AnswerRow). answer_at r e) row))
+
+  by_exchange : (x : Exchange) → e.exchange ≡ x → answer_of e ≢ Hand Nyet → IsDevices e (answer_of e)
+  by_exchange (Ahead sent) is told =
+      absurd (told (ap (λ (r : AnswerRow). answer_at r e) (ap (λ (x : Exchange). row_at x e) is)))
+  by_exchange (Made answer) is told =
+      if_made (nat_le (called_for e) e.done) answer is
+      (ap (λ (x : Exchange). row_at x e) is ∙ ap (λ (k : EpKind). made_row k e.ask.pid answer e) kind) told
+
+  devices : answer_of e ≢ Hand Nyet → IsDevices e (answer_of e)
+  devices told = by_exchange e.exchange refl told
+
+-- ---- a complete-split in which the host hears what the translator has
+
+record IsAskedTold (q : Qh) (n f : ℕ) (reply : Reply) (m : QueueMade) : Type 0 where
+  asked : IsAskedOnce q n f m
+  heard : m.heard ≡ reply
+
+told_due : (fixed : Fixed) (b : World) (k : IsMixedWorld b) (heads : HeadsHaveFields b.driver b.memory)
+    (sends : QueuesSendData b.driver b.memory) (e q : ℕ) (d : IsAnswerDue fixed b e q)
+    → IsDueOf fixed b e q d.complete.split.there.endpoint.desc (λ c. HasReply fixed c d.complete.split.there.endpoint.desc d.reply)
+    (IsAskedTold d.complete.split.queue (32 * q) b.control.frame.index d.reply)
+told_due fixed b k heads sends e q d =
+    complete_due fixed b k heads e q d.complete (λ c. HasReply fixed c d.complete.split.there.endpoint.desc d.reply)
+    (IsAskedTold d.complete.split.queue (32 * q) b.control.frame.index d.reply) d.has
+    (λ u same its c hears has out last is. record {
+      asked = asked_leaves fixed b k heads e q d.complete u same its c hears tt out last is;
+      heard = heard fixed b k heads sends e q d u same its c hears has out last;
+    })
+
+told_made : (text : List ℕ) (s : Script) → Spells text s → (k e q : ℕ) → IsPastFrames (moment s k).world → repeats s k ≤ 4000000
+    → (d : IsAnswerDue (fixed_of s) (begun s k) e q) → IsUncancelled (moment s k).world.driver e
+    → HasMade (IsAskedTold d.complete.split.queue (32 * q) (begun s k).control.frame.index d.reply) (queues_made s k)
+told_made text s spelled k e q past few d off =
+    splits_are_made text s spelled (IsAnswerDue (fixed_of s)) (λ b x y due. due.complete.split.there.endpoint.desc)
+    (λ b x y due c. HasReply (fixed_of s) c due.complete.split.there.endpoint.desc due.reply)
+    (λ b x y due. IsAskedTold due.complete.split.queue (32 * y) b.control.frame.index due.reply)
+    (λ b mixed heads sends x y due. told_due (fixed_of s) b mixed heads sends x y due)
+    (λ sides at lines hs w piped named b x y due z here kind same c goes had.
+    subst (λ (u : EpDesc). HasReply (fixed_of s) c u due.reply) same
+    (answer_beside (fixed_of s) (hubs_are_zero s) sides at lines hs w piped named x z here kind due.reply c goes
+    (subst (λ (u : EpDesc). HasReply (fixed_of s) w.bus u due.reply) (sym same) had)))
+    (λ x y due. cc due.complete.split.there.here) k e q past few d off
+
+-- ---- what it comes to
+
+module _ (q : Qh) (n f : ℕ) (reply : Reply) where
+  nyet_on : reply ≡ Hand Nyet → (A : Type 0) (ms : List QueueMade) → HasMade (IsAskedTold q n f reply) ms → GoesOn A q n f ms
+  nyet_on nyet A [] was = absurd was
+  nyet_on nyet A (m ∷ ms) (inl a) = not_yet A q n f m ms a.asked (a.heard ∙ nyet)
+  nyet_on nyet A (m ∷ ms) (inr was) = more_on A A q n f m ms (λ a. a) (nyet_on nyet A ms was)
+
+  told_by : (e : Entry) → IsDevices e reply → (ms : List QueueMade) → HasMade (IsAskedTold q n f reply) ms → HasMade (IsToldBy n e) ms
+  told_by e x [] was = was
+  told_by e x (m ∷ ms) (inl a) =
+      inl (record { reply = x.answer; made = x.made; answered = record { at = a.asked.completed.at; heard = a.heard ∙ x.told } })
+  told_by e x (m ∷ ms) (inr was) = inr (told_by e x ms was)
+
+-- ---- hubs that are spared
+
+spared_of : (hub : ℕ) (x : EpDesc) → x.hub ≡ Some hub → (hs : List HubContent)
+    → AllByRecursion (λ (h : HubContent). Some h.address ≡ x.hub → heard_clear h ≡ false) hs → AreSpared hub hs
+spared_of hub x behind [] all = tt
+spared_of hub x behind (h ∷ hs) all = ((λ own. all.0 (ap Some own ∙ sym behind)), spared_of hub x behind hs all.1)
+
+no_bit : (b : Bool) → (b ≡ true → ⊥) → b ≡ false
+no_bit true off = absurd (off refl)
+no_bit false off = refl
+
+module _ (text : List ℕ) (s : Script) (spelled : Spells text s) (i e q : ℕ) (past : IsPastFrames (moment s i).world)
+    (d : IsStartDue (fixed_of s) (begun s i) e q) (come : HasCome (moment s i).world.bus d.split.there.endpoint.desc) where
+  abbrev x : EpDesc
+  x = d.split.there.endpoint.desc
+
+  abbrev hub : ℕ
+  hub = come.is.hub
+
+  abbrev start : ℕ
+  start = microframe_of (begun s i).control.frame.index
+
+  order : StartsFirst d.split.placement
+  order = order_begun text s spelled i e q d.split.placement d.split.there d.split.classic
+
+  alone : (u : ℕ) → u < 8 → u ≢ start → has d.split.placement.smask u ≡ false
+  alone u low apart = no_bit (has d.split.placement.smask u) (λ on. apart (order.once u start low (omega arith) on d.bit))
+
+  abbrev StagedAt : ℕ → Type 0
+  StagedAt k = IsStagedIn (moment s k).world (begun s k) e q start d.split.placement d.split.there.endpoint.desc come.is.hub
+
+  module _ (end : ℕ) (one : IsOneFrame s i end) (through : IsHeardThroughout s i end d.split.there.endpoint.desc) where
+    shorter : (k : ℕ) → k ≤ end → IsOneFrame s i k
+    shorter k under = record {
+      same = λ j from up. one.same j from (omega (arith, up, under));
+      free = λ j from up. one.free j from (omega (arith, up, under));
+      few = λ j from up. one.few j from (omega (arith, up, under));
+    }
+
+    -- ---- the entry
+
+    stages : IsUncancelled (moment s i).world.driver e → StagedAt i
+    stages off =
+        let o = since_at text s spelled i e q d.split.placement d.split.there d.split.active off in
+        record {
+          frames = o.frames;
+          desc = o.same d.split.there.endpoint d.split.there.here;
+          stage = 0;
+          count = omega arith;
+          index = o.index;
+          over = λ none. past;
+          staged = record {
+            entry = come.entry;
+            there = come.is.there;
+            staged = record {
+              kind = come.kind;
+              came = come.whole;
+              before = λ some. absurd (omega (arith, some));
+              heard = λ some. absurd (omega (arith, some));
+            };
+          };
+          begun = λ some. absurd (omega (arith, some));
+        }
+
+    staged : (k : ℕ) → i ≤ k → k ≤ end → IsUncancelled (moment s k).world.driver e → StagedAt k
+    staged zero less under off = subst (λ (j : ℕ). IsUncancelled (moment s j).world.driver e → StagedAt j) (zero_is less) stages off
+      where
+        zero_is : i ≤ 0 → i ≡ 0
+        zero_is less = omega (arith, less)
+    staged (suc k) less under off =
+        ⊎_elim {C = StagedAt (suc k)}
+        (λ (here : i ≡ suc k). subst (λ (j : ℕ). IsUncancelled (moment s j).world.driver e → StagedAt j) here stages off)
+        (λ (apart : i ≢ suc k).
+        let from : i ≤ k = omega (arith, less, apart) in
+        let up : k ≤ end = omega (arith, under) in
+        let t : StagedAt k =
+        staged k from up (before_then text s spelled e q d.split.placement d.split.queue k off) in
+        staged_next text s spelled e q start d.split.placement x hub alone k t
+        (spared_of hub x come.is.behind (moment s k).world.bus.hubs (through.spared k from up)) i from (shorter (suc k) under) off)
+        (cases_eq i (suc k))
+
+    -- ---- its answer
+
+    -- a microframe of its C-mask comes after that of its start-split
+    after : (k : ℕ) (t : StagedAt k) → has d.split.placement.cmask (microframe_of (begun s k).control.frame.index) ≡ true → 1 ≤ t.stage
+    after k t bit = by t.stage refl
+      where
+        by : (n : ℕ) → t.stage ≡ n → 1 ≤ t.stage
+        by zero none =
+            let count = t.count in
+            let same : microframe_of (begun s k).control.frame.index ≡ start = omega (arith, count, none) in
+            absurd (true≢false (sym bit ∙ order.none start (microframe_of (begun s k).control.frame.index) (omega arith) d.bit
+            (omega (arith, same))))
+        by (suc n) is = omega (arith, is)
+
+    module _ (k : ℕ) (from : i ≤ k) (under : k ≤ end) (off : IsUncancelled (moment s k).world.driver e)
+        (c : IsCompleteDue (fixed_of s) (begun s k) e q)
+        (bit : has d.split.placement.cmask (microframe_of (begun s k).control.frame.index) ≡ true) where
+      t : StagedAt k
+      t = staged k from under off
+
+      here : IsStagedFrom (begun s k) e t.stage d.split.there.endpoint.desc come.is.hub
+      here = t.begun (after k t bit)
+
+      desc : c.split.there.endpoint.desc ≡ d.split.there.endpoint.desc
+      desc = here.its c.split.there.endpoint c.split.there.here
+
+      abbrev entry : Entry
+      entry = here.staged.entry
+
+      entry_is : IsEntryOf (begun s k).bus d.split.there.endpoint.desc here.staged.entry
+      entry_is = record { hub = come.is.hub; behind = come.is.behind; there = here.staged.there }
+
+      reply : Reply
+      reply = answer_of here.staged.entry
+
+      has_reply : HasReply (fixed_of s) (begun s k).bus d.split.there.endpoint.desc (answer_of here.staged.entry)
+      has_reply = record {
+        hub = come.is.hub;
+        behind = come.is.behind;
+        answer = ap answer_from here.staged.there;
+        heard = through.heard k from under;
+      }
+
+      answer_is_due : IsAnswerDue (fixed_of s) (begun s k) e q
+      answer_is_due = record {
+        complete = c;
+        reply = answer_of here.staged.entry;
+        has = subst (λ (y : EpDesc). HasReply (fixed_of s) (begun s k).bus y (answer_of here.staged.entry)) (sym desc) has_reply;
+      }
+
+      abbrev ToldAt : Type 0
+      ToldAt = HasMade (IsToldBy (32 * q) here.staged.entry) (queues_made s k)
+
+      made : IsPastFrames (moment s k).world
+          → HasMade (IsAskedTold c.split.queue (32 * q) (begun s k).control.frame.index (answer_of here.staged.entry)) (queues_made s k)
+      unfolding answer_is_due
+      made over = told_made text s spelled k e q over (one.few k from under) answer_is_due off
+
+      comes_to : IsPastFrames (moment s k).world → (A : Type 0) → (ToldAt → A)
+          → GoesOn A c.split.queue (32 * q) (begun s k).control.frame.index (queues_made s k)
+      comes_to over A so =
+          ⊎_elim {C = GoesOn A c.split.queue (32 * q) (begun s k).control.frame.index (queues_made s k)}
+          (λ (nyet : answer_of here.staged.entry ≡ Hand Nyet).
+          nyet_on c.split.queue (32 * q) (begun s k).control.frame.index (answer_of here.staged.entry) nyet A (queues_made s k) (made over))
+          (λ (told : answer_of here.staged.entry ≢ Hand Nyet).
+          is_answered (so (told_by c.split.queue (32 * q) (begun s k).control.frame.index (answer_of here.staged.entry) here.staged.entry
+          (devices here.staged.entry here.staged.staged.kind told) (queues_made s k) (made over))))
+          (nyet_or_not (answer_of here.staged.entry))
+
+      -- in the last microframe of the C-mask
+      last_made : c.split.placement ≡ d.split.placement
+          → IsLastIn d.split.placement.cmask (microframe_of (begun s k).control.frame.index) → IsPastFrames (moment s k).world
+          → HasMade (IsToldBy (32 * q) here.staged.entry) (queues_made s k)
+      last_made placed last over = last_answers_are_there text s spelled (answers_are_heard text s spelled) k e q over (one.few k from under) last_due off
+        where
+          two : 2 ≤ t.stage
+          two =
+              let count = t.count in
+              let gap = order.gap start (microframe_of (begun s k).control.frame.index) (omega arith) (omega arith) d.bit last.here in
+              omega (arith, count, gap)
+
+          last_due : IsLastDue (fixed_of s) (begun s k) e q
+          last_due = record {
+            complete = c;
+            last = subst (λ (n : ℕ). IsLastIn c.split.placement.cmask (microframe_of n)) here.shows
+                (subst (λ (p : Placement). IsLastIn p.cmask (microframe_of (begun s k).control.frame.index)) (sym placed) last);
+            entry = here.staged.entry;
+            has = subst (λ (y : EpDesc). HasEntry (begun s k).bus y here.staged.entry) (sym desc) (record {
+              hub = come.is.hub;
+              behind = come.is.behind;
+              there = here.staged.there;
+              kind = here.staged.staged.kind;
+              whole = here.staged.staged.heard two;
+            });
+            heard = subst (λ (y : EpDesc). IsNextHeard (fixed_of s) (begun s k).bus y) (sym desc) (through.heard k from under);
+          }
+
+    -- ---- along the frame
+
+    record Answered (k : ℕ) : Type 0 where
+      entry : Entry
+      is : IsEntryOf (begun s k).bus d.split.there.endpoint.desc entry
+      made : HasMade (IsToldBy (32 * q) entry) (queues_made s k)
+
+    resolves : (k : ℕ) → i ≤ k → k < end → IsOneFrame s i (suc k) → IsUncancelled (moment s k).world.driver e
+        → IsPastFrames (moment s k).world → (c : IsCompleteDue (fixed_of s) (begun s k) e q)
+        → has d.split.placement.cmask (microframe_of (begun s k).control.frame.index) ≡ true
+        → GoesOn (Answered k) c.split.queue (32 * q) (begun s k).control.frame.index (queues_made s k)
+    resolves k from less so off over c bit =
+        comes_to k from (omega (arith, less)) off c bit over (Answered k)
+        (λ told. record {
+          entry = (here k from (omega (arith, less)) off c bit).staged.entry;
+          is = entry_is k from (omega (arith, less)) off c bit;
+          made = told;
+        })
+
+-- ---- the law
+
+pub devices_are_heard : (text : List ℕ) (s : Script) → Spells text s → DevicesAreHeard s
+devices_are_heard text s spelled i k e q less past d come one through off last over =
+    by (follows text s spelled i e q d Kept k last.here
+    (told text s spelled Kept i e q k d
+    (λ j from under so off_then past_then c bit. resolves text s spelled i e q past d come k one through j from under so off_then past_then c
+    bit) k less (omega arith) one off).story)
+  where
+    Kept : ℕ → Type 0
+    Kept = Answered text s spelled i e q past d come k one through
+
+    by : Follows text s spelled i e q d Kept k → HasTold s i (suc k) (32 * q) d.split.there.endpoint.desc
+    by (had_answer at from before a) =
+        record { at = at; from = from; before = omega (arith, before); entry = a.entry; is = a.is; made = a.made }
+    by (is_due x) =
+        let c : IsCompleteDue (fixed_of s) (begun s k) e q = its_complete text s spelled i e q d k less one last.here x in
+        record {
+          at = k;
+          from = less;
+          before = omega arith;
+          entry = (here text s spelled i e q past d come k one through k less (omega arith) off c last.here).staged.entry;
+          is = entry_is text s spelled i e q past d come k one through k less (omega arith) off c last.here;
+          made = last_made text s spelled i e q past d come k one through k less (omega arith) off c last.here refl last over;
+        }
+
+pub texts_keep_split_frames : TextsKeepSplitFrames
+texts_keep_split_frames = λ text s spelled. record {
+  follow = completes_follow text s spelled;
+  answered = completes_are_answered text s spelled;
+  told = devices_are_heard text s spelled;
+}

@@ -1,0 +1,25 @@
+//! Worked rows of split transactions along their frame, which the check computes: a full-speed keyboard behind a hub in microframes 0 and 2
+//! of frame 128 (EHCI 1.0, 4.12.2.4; USB 2.0, 11.18 and 11.20).
+ghost use Rattle.std.specs.Prelude.{◌≡◌, []};
+ghost use Rattle.tt_pipeline.specs.declared.entry.Entry.{Entry};
+ghost use Rattle.claims_world.specs.QueuesMade.{HasMade};
+ghost use Rattle.claims_world.specs.Results.{IsToldBy};
+ghost use Rattle.law_world.specs.memory.Samples.{keyboard};
+ghost use Rattle.law_microframes.specs.due.repeats.Samples.{waiting, pressed};
+ghost use Rattle.law_reports.specs.due_at_begin.SplitFrames.{IsAnswer, IsNotYet, IsEntryOf, HasCome};
+ghost use Rattle.law_reports.specs.due_at_begin.SplitSamples.{starting, started_in, made_in, its_queue};
+
+/// Once the walk of the frames is over in microframe 0 the keyboard's start-split has come to its translator; before it was made it hadn't.
+pub fn a_start_split_comes()
+    ensures come { HasCome (started_in starting 5).bus keyboard }
+    ensures not_yet { HasCome (started_in starting 2).bus keyboard → ⊥ }
+{}
+
+/// Where a key is down the host heard in the complete-split of microframe 2 what the keyboard said, once it is written back, and not before;
+/// that is an answer. Where the translator has nothing it is NYET.
+pub fn a_device_is_heard()
+    ensures not_yet { made_in pressed 3 ≡ [] }
+    ensures told { (e : Entry) → IsEntryOf (started_in pressed 1).bus keyboard e → HasMade (IsToldBy its_queue e) (made_in pressed 4) }
+    ensures answer { HasMade (IsAnswer its_queue) (made_in pressed 4) }
+    ensures nyet { HasMade (IsNotYet its_queue) (made_in waiting 4) }
+{}
