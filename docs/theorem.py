@@ -75,6 +75,14 @@ SAYS = {
                "head was written back so: so many fewer are left, the toggle is the other one, and a start-split comes next. In the last microframe "
                "of its C-mask, where its translator's pipeline has its entry with the whole start-split worked, what was heard is what the device "
                "said, never NYET.",
+    "splits_go_on": "Within one frame, where the bus may be used in each microframe and no more than 4 microseconds of one went for complete-splits "
+                    "made again: where a start-split of an interrupt endpoint below a hub was due as a microframe began, and no cancel of it was "
+                    "accepted since, each later microframe of the frame that stands in its C-mask begins with a complete-split of it due, or the "
+                    "host heard something other than NYET in one before; once the walk of the frames is over in such a microframe the host heard "
+                    "that, or NYET in this one. And where the translator of its hub and port had its whole start-split once the walk of the frames "
+                    "was over in that microframe, its hub hasn't heard last to clear a buffer or to reset a translator since, and neither a "
+                    "complete-split of it nor the answer to one is lost: by the end of the walk of the frames in the last microframe of its C-mask "
+                    "the host heard in a complete-split what the device said to the translator. That a result moves its bytes is in `results`.",
     "sitds": "Once the walk of the frames is over in a microframe that isn't held, where no more than 4 microseconds went for complete-splits made "
              "again: the siTDs to which it came with a transaction to be made in this microframe are those that were written back after it, one for "
              "one: of an OUT a part, with which there is one fewer to send; of an IN its start-split, or a complete-split; parts and complete-splits "

@@ -48,4 +48,5 @@ pub mod Pipelines
 pub mod Translators
 pub mod Behind
 pub mod Results
+pub mod SplitFrames
 pub mod Places

@@ -16,11 +16,13 @@ use Rattle.claims_world.specs.Slots.{SlotsAreDone}
 use Rattle.claims_world.specs.SlotsAtBegin.{SlotsAtBeginAreDone}
 use Rattle.claims_world.specs.Sitds.{SitdsAreServed}
 use Rattle.claims_world.specs.SitdsAtBegin.{SitdsAtBeginAreServed}
+use Rattle.claims_world.specs.SplitFrames.{KeepsSplitFrames}
 use Rattle.claims_world.specs.SplitsAtBegin.{KeepsSplits}
 use Rattle.law_reports.proofs.lemmas.due_at_begin.SitdMoments.{texts_serve_sitds_at_begin}
 use Rattle.law_reports.proofs.lemmas.due_at_begin.SlotMoments.{texts_do_slots_at_begin}
 use Rattle.law_reports.proofs.lemmas.due_at_begin.SplitDue.{texts_make_splits}
 use Rattle.law_reports.proofs.lemmas.due_at_begin.ResultDue.{texts_take_results}
+use Rattle.law_reports.proofs.lemmas.due_at_begin.SplitsTold.{texts_keep_split_frames}
 use Rattle.claims_world.specs.Unfinished.{KeepsToWork}
 use Rattle.law_reports.proofs.lemmas.queues.Copies.{texts_keep_to_work}
 use Rattle.claims_world.specs.Microframes.{MicroframesEnd}
@@ -65,6 +67,9 @@ source_makes_splits = of_each_plain KeepsSplits texts_make_splits
 
 pub source_takes_results : (words : List (List ℕ)) (left : Option (List ℕ)) → OfEachPlainScript KeepsAnswers words left
 source_takes_results = of_each_plain KeepsAnswers texts_take_results
+
+pub source_goes_on_with_splits : (words : List (List ℕ)) (left : Option (List ℕ)) → OfEachPlainScript KeepsSplitFrames words left
+source_goes_on_with_splits = of_each_plain KeepsSplitFrames texts_keep_split_frames
 
 pub source_serves_sitds : (words : List (List ℕ)) (left : Option (List ℕ)) → OfEachPlainScript SitdsAreServed words left
 source_serves_sitds = of_each_plain SitdsAreServed texts_serve_sitds

@@ -26,6 +26,7 @@ ghost use Rattle.claims_world.specs.Slots.{SlotsAreDone};
 ghost use Rattle.claims_world.specs.Sitds.{SitdsAreServed};
 ghost use Rattle.claims_world.specs.SitdsAtBegin.{SitdsAtBeginAreServed};
 ghost use Rattle.claims_world.specs.SlotsAtBegin.{SlotsAtBeginAreDone};
+ghost use Rattle.claims_world.specs.SplitFrames.{KeepsSplitFrames};
 ghost use Rattle.claims_world.specs.SplitsAtBegin.{KeepsSplits};
 ghost use Rattle.claims_world.specs.Unfinished.{KeepsToWork};
 ghost use Rattle.claims_world.specs.Microframes.{MicroframesEnd};
@@ -208,6 +209,7 @@ pub fn ehci<S: Source, K: Sink>(
     ensures slots_at_begin { OfEachPlainScript SlotsAtBeginAreDone (map string_bytes words.now) (S.left source.old) }
     ensures splits_at_begin { OfEachPlainScript KeepsSplits (map string_bytes words.now) (S.left source.old) }
     ensures results { OfEachPlainScript KeepsAnswers (map string_bytes words.now) (S.left source.old) }
+    ensures splits_go_on { OfEachPlainScript KeepsSplitFrames (map string_bytes words.now) (S.left source.old) }
     ensures sitds { OfEachPlainScript SitdsAreServed (map string_bytes words.now) (S.left source.old) }
     ensures sitds_at_begin { OfEachPlainScript SitdsAtBeginAreServed (map string_bytes words.now) (S.left source.old) }
     ensures goes_on { OfEachPlainScript KeepsToWork (map string_bytes words.now) (S.left source.old) }

@@ -6,4 +6,3 @@ pub mod Framed
 pub mod Splits
 pub mod SplitSamples
 pub mod SplitsFollow
-pub mod SplitFrames

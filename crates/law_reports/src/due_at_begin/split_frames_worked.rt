@@ -6,7 +6,7 @@ ghost use Rattle.claims_world.specs.QueuesMade.{HasMade};
 ghost use Rattle.claims_world.specs.Results.{IsToldBy};
 ghost use Rattle.law_world.specs.memory.Samples.{keyboard};
 ghost use Rattle.law_microframes.specs.due.repeats.Samples.{waiting, pressed};
-ghost use Rattle.law_reports.specs.due_at_begin.SplitFrames.{IsAnswer, IsNotYet, IsEntryOf, HasCome};
+ghost use Rattle.claims_world.specs.SplitFrames.{IsAnswer, IsNotYet, IsEntryOf, HasCome};
 ghost use Rattle.law_reports.specs.due_at_begin.SplitSamples.{starting, started_in, made_in, its_queue};
 
 /// Once the walk of the frames is over in microframe 0 the keyboard's start-split has come to its translator; before it was made it hadn't.

@@ -1,6 +1,5 @@
 //! The split transactions of interrupt endpoints below hubs that are due as their microframe begins (EHCI 1.0, 4.12.2.4; USB 2.0, 11.20).
-ghost use Rattle.law_reports.specs.due_at_begin.Splits.{TextsMakeSplits, TextsTakeResults};
-ghost use Rattle.law_reports.specs.due_at_begin.SplitFrames.{TextsKeepSplitFrames};
+ghost use Rattle.law_reports.specs.due_at_begin.Splits.{TextsMakeSplits, TextsTakeResults, TextsKeepSplitFrames};
 ghost use Rattle.law_reports.specs.due_at_begin.SplitsFollow.{TextsFollowStarts};
 
 /// Where the walk of the frames is over in a microframe, each start-split that was due as the microframe began was made in it, and its
@@ -25,7 +24,8 @@ pub fn texts_follow_starts()
 {}
 
 /// After a start-split that was due as its microframe began, each microframe of the C-mask in the same frame begins with a complete-split due,
-/// until one is answered otherwise than NYET, unless the endpoint is cancelled, where the bus may be used in each microframe.
+/// until one is answered otherwise than NYET, unless the endpoint is cancelled, where the bus may be used in each microframe. Where the
+/// start-split came to the translator, and no complete-split nor its answer is lost, the host heard by the last what the device said.
 pub fn texts_keep_split_frames()
     ensures { TextsKeepSplitFrames }
 {}

@@ -7,7 +7,8 @@ use Rattle.ehci_cli.proofs.Requests.{source_keeps_requests}
 use Rattle.ehci_cli.proofs.Streams.{source_ends_once, source_misses_below, source_fails_below, source_keeps_streams}
 use Rattle.ehci_cli.proofs.Visits.{source_keeps_visits, source_pays_within_load, source_is_in_time, source_ends_microframes, source_keeps_due, source_does_slots, source_keeps_to_work, source_repeats_after_losses}
 use Rattle.ehci_cli.proofs.Visits.{source_does_what_is_due_at_begin, source_does_slots_at_begin, source_keeps_translators}
-use Rattle.ehci_cli.proofs.Visits.{source_makes_splits, source_takes_results, source_serves_sitds, source_serves_sitds_at_begin}
+use Rattle.ehci_cli.proofs.Visits.{source_makes_splits, source_takes_results, source_goes_on_with_splits, source_serves_sitds}
+use Rattle.ehci_cli.proofs.Visits.{source_serves_sitds_at_begin}
 use Rattle.app_forms.proofs.Finished.{finishes}
 use Rattle.ehci_cli.proofs.Whole.{whole_load, whole_program, source_runs_plain, source_first_is_plain}
 use Rattle.ehci_cli.proofs.program.ehci.Goals as goal
@@ -86,6 +87,9 @@ returns-clause-splits_at_begin g c = source_makes_splits _ _
 
 pub returns-clause-results : goal.returns-clause-results
 returns-clause-results g c = source_takes_results _ _
+
+pub returns-clause-splits_go_on : goal.returns-clause-splits_go_on
+returns-clause-splits_go_on g c = source_goes_on_with_splits _ _
 
 pub returns-clause-sitds : goal.returns-clause-sitds
 returns-clause-sitds g c = source_serves_sitds _ _

@@ -36,7 +36,7 @@ use Rattle.law_microframes.specs.translators.Results.{key_for, pipeline_for}
 use Rattle.law_microframes.proofs.lemmas.due.Turning.{in_periodic}
 use Rattle.law_microframes.proofs.lemmas.translators.FrameIndex.{HasFrameIndex}
 use Rattle.law_microframes.proofs.lemmas.visits.ReasonParts.{command_control, command_bus}
-use Rattle.law_reports.specs.due_at_begin.SplitFrames.{IsOneFrame}
+use Rattle.claims_world.specs.SplitFrames.{IsOneFrame}
 use Rattle.law_reports.specs.pipes.Declared.{sides_of}
 use Rattle.law_reports.proofs.lemmas.due_at_begin.BegunMoments.{BeginsNow, GoesNow, begins, by_controller, by_driver, by_command, stays}
 use Rattle.law_reports.proofs.lemmas.due_at_begin.BegunMoments.{goes_now}

@@ -29,7 +29,7 @@ use Rattle.claims_world.specs.QueuesMade.{HasMade}
 use Rattle.claims_world.specs.Results.{IsToldBy}
 use Rattle.law_world.specs.memory.Samples.{keyboard}
 use Rattle.law_microframes.specs.due.repeats.Samples.{waiting, pressed}
-use Rattle.law_reports.specs.due_at_begin.SplitFrames.{IsAnswer, IsNotYet, IsEntryOf, HasCome}
+use Rattle.claims_world.specs.SplitFrames.{IsAnswer, IsNotYet, IsEntryOf, HasCome}
 use Rattle.law_reports.specs.due_at_begin.SplitSamples.{starting, started_in, made_in, its_queue, eight_bytes}
 
 -- ---- the start-split comes

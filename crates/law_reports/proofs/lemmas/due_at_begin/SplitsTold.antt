@@ -43,8 +43,8 @@ use Rattle.claims_world.specs.WithinLoad.{repeats}
 use Rattle.law_world.specs.memory.Mixed.{IsMixedWorld}
 use Rattle.law_microframes.specs.time.DataQueues.{QueuesSendData}
 use Rattle.law_microframes.specs.visits.Belonging.{HeadsHaveFields}
-use Rattle.law_reports.specs.due_at_begin.SplitFrames.{IsOneFrame, IsEntryOf, HasCome, IsHeardThroughout, HasTold, DevicesAreHeard}
-use Rattle.law_reports.specs.due_at_begin.SplitFrames.{TextsKeepSplitFrames}
+use Rattle.claims_world.specs.SplitFrames.{IsOneFrame, IsEntryOf, HasCome, IsHeardThroughout, HasTold, DevicesAreHeard}
+use Rattle.law_reports.specs.due_at_begin.Splits.{TextsKeepSplitFrames}
 use Rattle.law_reports.proofs.lemmas.due_at_begin.EntryFrames.{IsStagedIn, IsStagedFrom, staged_next}
 use Rattle.law_reports.proofs.lemmas.due_at_begin.EntryKept.{AreSpared}
 use Rattle.law_reports.proofs.lemmas.due_at_begin.EntryStages.{HasStaged}

@@ -18,15 +18,13 @@
 --     DevicesAreHeard s          where a start-split was due as a microframe began, and has come once the walk of the frames is over in it,
 --                                so it is by the end of the walk of the frames in the last microframe of its C-mask in the frame
 --     KeepsSplitFrames s         all of this
---     TextsKeepSplitFrames       so it is of each script that a text spells
-use Rattle.std.specs.Prelude.{◌≡◌, ◌≢◌, ℕ, suc, List, ◌/◌, ◌*◌, ◌≤◌, ◌<◌, ◌⊎◌, true, false, Some}
+use Rattle.std.specs.Prelude.{◌≡◌, ◌≢◌, ℕ, suc, ◌/◌, ◌*◌, ◌≤◌, ◌<◌, ◌⊎◌, true, false, Some}
 use Rattle.std.specs.List.{find}
 use Rattle.usb_base.specs.declared.endpoints.EpDesc.{EpDesc}
 use Rattle.usb_base.specs.declared.packets.EpKind.TheVariants.{Interrupt}
 use Rattle.usb_base.specs.declared.packets.Pid.TheVariants.{Nyet}
 use Rattle.usb_base.specs.declared.packets.Reply.TheVariants.{Hand}
 use Rattle.script_types.specs.declared.scripts.Script.{Script}
-use Rattle.script_text.specs.Faults.{Spells}
 use Rattle.bandwidth.specs.Placements.{has}
 use Rattle.hc_interrupt.specs.Turns.{microframe_of}
 use Rattle.tt_pipeline.specs.declared.entry.Entry.{Entry}
@@ -111,6 +109,3 @@ pub record KeepsSplitFrames (s : Script) : Type 0 where
   pub follow : CompletesFollow s
   pub answered : CompletesAreAnswered s
   pub told : DevicesAreHeard s
-
-abbrev pub TextsKeepSplitFrames : Type 0
-TextsKeepSplitFrames = (text : List ℕ) (s : Script) → Spells text s → KeepsSplitFrames s
