@@ -205,11 +205,11 @@ uint32_t ehci_step(struct ehci_whole *, uint32_t *words, size_t n, const struct 
  * leave, and what is in the struct is read and written once. `*events` tells how many were made, `*used` how many answers they took; the
  * others were not looked at.
  *
- * EHCI_IDLE: Run is 0, and nothing changed.
+ * EHCI_IDLE: Run is 0, and nothing changed; both numbers are 0.
  * EHCI_END: the last of these events was the End of the microframe, or a host system error ended it.
- * EHCI_STEP_WANTS_BUS: all answers were taken, and the next event asks `*ask`, and sends the first `ask->out_len` bytes of `out`. It isn't
- * made: the state and the words are those before it. Call again with its answer.
- * EHCI_STEP_UNFIT: as of ehci_step; nothing changed.
+ * EHCI_STEP_WANTS_BUS: all answers were taken, so that `*used` is `count`, and the next event asks `*ask`, and sends the first
+ * `ask->out_len` bytes of `out`. It isn't made: the state and the words are those before it. Call again with its answer.
+ * EHCI_STEP_UNFIT: as of ehci_step; nothing changed, and both numbers are 0.
  * EHCI_RUN_ON: `*events` were made, and the microframe isn't over. Of a ring without a head that is so however many are allowed.
  *
  * What is said of words, `out` and pointers at ehci_step holds. */

@@ -74,7 +74,7 @@ pub extern "C" fn ehci_step(
 /// - 9: the words are more than 1,073,741,816, `out` has room for fewer than 1,024 bytes, or the state is no controller's.
 /// - 10: as many were made as were allowed, and the microframe isn't over.
 ///
-/// For 0 and 9 the state and the words stay.
+/// For 0 and 9 the state and the words stay, and both numbers are 0. For 8 all answers were taken.
 #[unsafe(no_mangle)]
 pub extern "C" fn ehci_run(
     whole: &mut Whole,
@@ -87,11 +87,14 @@ pub extern "C" fn ehci_run(
     out: &mut [u8],
 ) -> u32
     ensures over { result ≡ 7 → RunsOver whole.old words.old answers.now bytes.now events.new used.new whole.new words.new }
-    ensures wants { result ≡ 8 → RunsToAsk whole.old words.old answers.now bytes.now events.new whole.new words.new ask.new out.new }
+    ensures wants { result ≡ 8 →
+        RunsToAsk whole.old words.old answers.now bytes.now events.new used.new whole.new words.new ask.new out.new }
     ensures long { result ≡ 10 → Runs whole.old words.old answers.now bytes.now events.old used.new whole.new words.new }
     ensures allowed { events.new ≤ events.old }
     ensures idle { result ≡ 0 → (file_of whole.old.registers).run ≡ false }
     ensures unfit { result ≡ 9 → length words.old ≤ most_lent → 1024 ≤ length out.old → (c : Control) → control_of whole.old ≢ Some c }
+    ensures idle_none { result ≡ 0 → (events.new ≡ 0) × (used.new ≡ 0) }
+    ensures unfit_none { result ≡ 9 → (events.new ≡ 0) × (used.new ≡ 0) }
     ensures known { result ≤ 10 }
     ensures idle_stays { result ≡ 0 → (whole.new ≡ whole.old) × (words.new ≡ words.old) }
     ensures unfit_stays { result ≡ 9 → (whole.new ≡ whole.old) × (words.new ≡ words.old) }

@@ -22,6 +22,7 @@ use Rattle.hc_microframe.specs.Stepping.{opening}
 use Rattle.hc_microframe.specs.Several.{ReachesEnd, ReachesAsk, IsRun, IsRunOver, IsRunHeldUp, Leaves, MakesNext, AsksNext}
 use Rattle.hc_microframe.proofs.Going.{nothing_wanted}
 use Rattle.hc_microframe.proofs.Once.{asks_once}
+use Rattle.hc_microframe.proofs.Emptied.{none_after}
 use Rattle.hc_microframe.proofs.HeldUp.{held_up_keeps}
 use Rattle.hc_microframe.proofs.InHand.{asks_in_hand}
 
@@ -164,6 +165,7 @@ reaches_ask start desk n control file words f before new new_file left g after s
       end = end;
       event = subst (λ (ws : List ℕ). IsEvent (content control file (all_lent ws)) before end after) same at.event;
       wanted = at.wanted;
+      all_taken = none_after (old 0) end before after (none_left (old 0) end before after unasked at.event at.wanted) at.event;
     }
 
 -- ---- a call

@@ -58,7 +58,8 @@ row_held events.Frame old new before after none some l =
     (frame_held (frame_place old) old.control.frame.hand (frame_place new) before after none some l.walked)
 row_held events.Enter old new before after none some l =
     absurd (false≢true
-    (ring_held (event_row (walk_place (entered old))) (at_event (walk_place (entered old))) (walk_place new) before after none some l.walked))
+    (ring_held (event_row (walk_place (entered old))) (at_event (walk_place (entered old))) (walk_place new) before after none some
+    l.walked))
 row_held events.Go old new before after none some l =
     of_ring (frame_address old.control.frame.hand) old.control.walk.held
     (ring_held (event_row (walk_place old)) (at_event (walk_place old)) (walk_place new) before after none some l.walked)

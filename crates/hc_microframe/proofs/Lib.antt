@@ -6,6 +6,7 @@ mod Placing
 pub mod Wholes
 mod Once
 mod HeldUp
+mod Emptied
 mod InHand
 mod OneEvent
 mod RingShapes

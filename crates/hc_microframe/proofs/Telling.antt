@@ -1,5 +1,5 @@
 -- What a call tells, from what the desk has.
-use Rattle.std.proofs.Common.{◌≡◌, ℕ, true, List, Option, None, Some, refl}
+use Rattle.std.proofs.Common.{◌≡◌, ℕ, ◌-◌, true, List, length, Option, None, Some, refl, arith, ap}
 use Rattle.std.specs.Prelude.{is_some, IfSome}
 use Rattle.hc_microframe.specs.declared.answers.Answer.{Answer}
 use Rattle.hc_microframe.specs.declared.answers.AskWords.{AskWords}
@@ -37,16 +37,19 @@ pub holds_up : (s : Whole) (words : List ℕ) (answers : List Answer) (bytes : L
 holds_up s words answers bytes after ask out made tells =
     holds_this s words answers bytes after ask out after.wanted made refl made.wanted tells
 
-run_holds_this : (s : Whole) (words : List ℕ) (answers : List Answer) (bytes : List ℕ) (n : ℕ) (new : Whole) (left : List ℕ) (after : Told)
-    (ask : AskWords) (out : List ℕ) (wanted : Option Wanted) → IsRunHeldUp s words (told answers bytes) n new left after
-    → after.wanted ≡ wanted → is_some wanted ≡ true → IfSome wanted (λ w. IsTold w ask out)
-    → RunsToAsk s words answers bytes n new left ask out
-run_holds_this s words answers bytes n new left after ask out None made is some tells = absurd cc
-run_holds_this s words answers bytes n new left after ask out (Some w) made is some tells =
-    record { after = after; wanted = w; made = made; first = is; is_told = tells }
+run_holds_this : (s : Whole) (words : List ℕ) (answers : List Answer) (bytes : List ℕ) (n used : ℕ) (new : Whole) (left : List ℕ)
+    (after : Told) (ask : AskWords) (out : List ℕ) (wanted : Option Wanted) → IsRunHeldUp s words (told answers bytes) n new left after
+    → used ≡ length answers → after.wanted ≡ wanted → is_some wanted ≡ true → IfSome wanted (λ w. IsTold w ask out)
+    → RunsToAsk s words answers bytes n used new left ask out
+run_holds_this s words answers bytes n used new left after ask out None made taken is some tells = absurd cc
+run_holds_this s words answers bytes n used new left after ask out (Some w) made taken is some tells =
+    record { after = after; wanted = w; made = made; first = is; is_told = tells; taken = taken }
 
-pub runs_to_ask : (s : Whole) (words : List ℕ) (answers : List Answer) (bytes : List ℕ) (n : ℕ) (new : Whole) (left : List ℕ)
+-- all answers were taken
+pub runs_to_ask : (s : Whole) (words : List ℕ) (answers : List Answer) (bytes : List ℕ) (n used : ℕ) (new : Whole) (left : List ℕ)
     (after : Told) (ask : AskWords) (out : List ℕ) → IsRunHeldUp s words (told answers bytes) n new left after
-    → IfSome after.wanted (λ w. IsTold w ask out) → RunsToAsk s words answers bytes n new left ask out
-runs_to_ask s words answers bytes n new left after ask out made tells =
-    run_holds_this s words answers bytes n new left after ask out after.wanted made refl made.made.wanted tells
+    → used ≡ length answers - length after.answers → IfSome after.wanted (λ w. IsTold w ask out)
+    → RunsToAsk s words answers bytes n used new left ask out
+runs_to_ask s words answers bytes n used new left after ask out made is tells =
+    run_holds_this s words answers bytes n used new left after ask out after.wanted made
+    (omega (arith, is, ap (λ (rest : List Answer). length rest) made.made.all_taken)) refl made.made.wanted tells

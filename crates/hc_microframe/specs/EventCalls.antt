@@ -52,10 +52,11 @@ pub record RunsOver (s : Whole) (words : List ℕ) (answers : List Answer) (byte
   pub made : IsRunOver s words (told answers bytes) n new left after
   pub taken : used ≡ length answers - length after.answers
 
-pub record RunsToAsk (s : Whole) (words : List ℕ) (answers : List Answer) (bytes : List ℕ) (n : ℕ) (new : Whole) (left : List ℕ)
+pub record RunsToAsk (s : Whole) (words : List ℕ) (answers : List Answer) (bytes : List ℕ) (n used : ℕ) (new : Whole) (left : List ℕ)
     (ask : AskWords) (out : List ℕ) : Type 0 where
   pub after : Told
   pub wanted : Wanted
   pub made : IsRunHeldUp s words (told answers bytes) n new left after
   pub first : after.wanted ≡ Some wanted
   pub is_told : IsTold wanted ask out
+  pub taken : used ≡ length answers

@@ -1,13 +1,13 @@
 -- Events of a controller in a row, in one call (EHCI 1.0, 4.1 and 4.6 to 4.12). `n` is their number.
 --     Reaches start desk n s words t      none of them is the last of its microframe; the state s and the words tell where they lead
 --     ReachesEnd start desk n s words t   the last of them is the last of its microframe
---     ReachesAsk start desk n s words t   none of them is the last; the next asks what has no answer, and isn't made
+--     ReachesAsk start desk n s words t   none of them is the last; they took all answers; the next asks what has none, and isn't made
 --     IsRun, IsRunOver, IsRunHeldUp       the same, from a state and words that were passed
 --     Leaves stop start desk most ..      what such a call leaves, by why it ended
 --     Calls s words desk n ..             n calls for one event, none of them the last of its microframe
 --     CallsAreRun, CallsAreRunOver        so many calls for one event are one call for so many
 --     RunIsHeldUp                         where such a call wants an answer, a call for one event from there wants it
-use Rattle.std.specs.Prelude.{◌≡◌, ℕ, ◌+◌, ◌^◌, ◌<◌, ◌≤◌, true, false, is_some, List, Option, None, Some}
+use Rattle.std.specs.Prelude.{◌≡◌, ℕ, ◌+◌, ◌^◌, ◌<◌, ◌≤◌, true, false, is_some, List, [], Option, None, Some}
 use Rattle.word_mem.specs.Memory.{all_lent}
 use Rattle.lent_words.specs.Lent.{lent_mem}
 use Rattle.op_registers.specs.RegisterFile.{RegisterFile}
@@ -46,6 +46,7 @@ pub record ReachesAsk (start : Content) (desk : Told) (n : ℕ) (s : Whole) (wor
   pub end : Content
   pub event : IsEvent (content made.control made.file (all_lent words)) before end after
   pub wanted : is_some after.wanted ≡ true
+  pub all_taken : after.answers ≡ []
 
 -- ---- from a state and words that were passed
 

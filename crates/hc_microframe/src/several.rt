@@ -152,6 +152,8 @@ pub fn run(whole: &mut Whole, words: &mut [u32], desk: &mut Desk<'_, '_>, most: 
     ensures unfit { result ≡ RunStop.Unfit → length words.old ≤ most_lent → (c : Control) → control_of whole.old ≢ Some c }
     ensures idle_stays { result ≡ RunStop.Idle → (whole.new ≡ whole.old) × (words.new ≡ words.old) }
     ensures unfit_stays { result ≡ RunStop.Unfit → (whole.new ≡ whole.old) × (words.new ≡ words.old) }
+    ensures idle_desk { result ≡ RunStop.Idle → desk.new ≡ desk.old }
+    ensures unfit_desk { result ≡ RunStop.Unfit → desk.new ≡ desk.old }
     ensures over_allowed { (n : ℕ) → result ≡ RunStop.Over n → n ≤ most }
     ensures wants_allowed { (n : ℕ) → result ≡ RunStop.WantsBus n → n ≤ most }
     ensures length { length words.new ≡ length words.old }

@@ -18,13 +18,13 @@ returns-in-Over-clause-over c is = record {
 
 pub returns-in-WantsBus-clause-wants : goal.returns-in-WantsBus-clause-wants
 returns-in-WantsBus-clause-wants c is =
-    runs_to_ask c.args.whole.now c.args.words.now c.args.answers.now c.args.bytes.now c.in-WantsBus.made c.run-stop.new.whole
+    runs_to_ask c.args.whole.now c.args.words.now c.args.answers.now c.args.bytes.now c.in-WantsBus.made _ c.run-stop.new.whole
     c.run-stop.new.words c.run-stop.new.desk c.tell_asked.new.ask c.tell_asked.new.out
     (subst
     (λ (desk : Told).
     IsRunHeldUp c.args.whole.now c.args.words.now desk c.in-WantsBus.made c.run-stop.new.whole c.run-stop.new.words c.run-stop.new.desk)
     c.of-desk.ensures
-    (c.run-stop.ensures.wants c.in-WantsBus.made c.in-WantsBus.is)) c.tell_asked.ensures
+    (c.run-stop.ensures.wants c.in-WantsBus.made c.in-WantsBus.is)) (search rules) c.tell_asked.ensures
 
 pub returns-in-Long-clause-long : goal.returns-in-Long-clause-long
 returns-in-Long-clause-long c is = record {
