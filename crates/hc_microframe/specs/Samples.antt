@@ -1,7 +1,16 @@
--- States of the worked rows.
+-- States, answers and beginnings of the worked rows.
 use Rattle.std.specs.Prelude.{ℕ, [], ◌∷◌, List}
+use Rattle.usb_base.specs.declared.packets.Ask.{Ask}
+use Rattle.usb_base.specs.declared.packets.EpKind.TheVariants.{Bulk}
+use Rattle.usb_base.specs.declared.packets.Pid.TheVariants as pids
+use Rattle.usb_base.specs.declared.packets.Speed.TheVariants.{High}
+use Rattle.usb_base.specs.declared.packets.Split.TheVariants.{Plain}
+use Rattle.hc_core.specs.Controller.{Content, content, new_control}
+use Rattle.word_mem.specs.Memory.{all_lent}
 use Rattle.hc_microframe.specs.declared.answers.Answer.{Answer}
+use Rattle.hc_microframe.specs.declared.answers.Wanted.{Wanted}
 use Rattle.hc_microframe.specs.declared.state.State.{State}
+use Rattle.hc_microframe.specs.State.{file_of}
 
 -- the words of a state, in the order of the registers
 abbrev pub state : ℕ → ℕ → ℕ → ℕ → ℕ → ℕ → ℕ → ℕ → State
@@ -25,3 +34,23 @@ answer kind pid len start = record { kind = kind; pid = pid; len = len; start = 
 
 abbrev pub three_bytes : List ℕ
 three_bytes = 7 ∷ 8 ∷ 9 ∷ []
+
+-- a new controller that runs, both of its schedules off, its frame list at address 0 of these words
+abbrev pub running : List ℕ → Content
+running words = content new_control (file_of (commanded 0x00080001)) (all_lent words)
+
+-- an IN of endpoint 1 of the device 3, with 512 bytes to come
+abbrev pub in_of_three : Ask
+in_of_three = record {
+  split = Plain;
+  pid = pids.In;
+  addr = 3;
+  ep = 1;
+  speed = High;
+  kind = Bulk;
+  toggle = pids.Data0;
+  limit = 512;
+}
+
+abbrev pub nothing_sent : Wanted
+nothing_sent = record { ask = in_of_three; out = [] }

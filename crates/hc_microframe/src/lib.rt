@@ -23,6 +23,7 @@ mod stepping;
 mod whole;
 pub mod worked;
 pub mod worked_events;
+pub mod worked_runs;
 
 pub use answers::{Answer, AskWords, Wanted, ask_words};
 pub use desk::Desk;
