@@ -4,7 +4,6 @@ use Rattle.std.specs.List.{concat}
 use Rattle.std.proofs.lemmas.List.{append-nil}
 use Rattle.std.proofs.lemmas.List.Folds.{concat-append}
 use Rattle.claims_base.specs.Prefix.{IsPrefix}
-use Rattle.law_translated.specs.Lift.{Buffered}
 use Rattle.law_translated.specs.InPipes.{in_halves, in_claims}
 use Rattle.law_translated.specs.OutPipes.{Line, IsAhead, Agrees}
 use Rattle.law_translated.proofs.Lifting.{holds_gone}
@@ -12,7 +11,7 @@ use Rattle.law_translated.proofs.Receiving.{in_keeps}
 use Rattle.law_translated.proofs.Sending.{taken_begins}
 use Rattle.law_translated.proofs.Streams.{begins}
 use Rattle.law_below_hubs.specs.HostIns.{in_split, InBegins}
-use Rattle.law_below_hubs.specs.HostOuts.{out_slot, OutIsTaken}
+use Rattle.law_below_hubs.specs.HostOuts.{its_way, out_slot, OutIsTaken}
 use Rattle.law_below_hubs.proofs.HostKept.{agrees}
 
 known_first : (l : Line) → Agrees l → IsPrefix (concat l.known) (concat l.taken)
@@ -36,7 +35,7 @@ out_is_taken k i place w h waiting known next o =
     }
 
 pub in_begins : InBegins
-in_begins packets k i place w h waiting going known o =
+in_begins packets k i place w h waiting going timely known o =
     subst (λ (ys : List ℕ). IsPrefix ys (concat packets)) o.knows
     (begins packets o.line.accepted
-    (holds_gone in_halves (in_claims packets) (in_keeps packets) Buffered (in_split o.line o.wait o.slot) o.holds).in_order)
+    (holds_gone in_halves (in_claims packets) (in_keeps packets) (its_way k.kind) (in_split o.line o.wait o.slot) o.holds).in_order)

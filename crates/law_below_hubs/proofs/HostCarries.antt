@@ -13,6 +13,7 @@ use Rattle.async_walk.specs.declared.state.WalkStep.{WalkStep}
 use Rattle.async_walk.specs.Naks.{kind_at}
 use Rattle.periodic_walk.specs.Place.{FramePlace}
 use Rattle.periodic_walk.specs.Walk.{Walk}
+use Rattle.hc_interrupt.specs.Turns.{is_last_of}
 use Rattle.hc_core.specs.Controller.{Content, walk_place, frame_place}
 use Rattle.claims_base.specs.Controller.{Base}
 use Rattle.law_structures.specs.lent_structures.Structures.{QueueHead, StructureSets}
@@ -95,6 +96,7 @@ pub data IsMadeBy (member : ℕ → Bool) (met : ℕ → Option Kind) (parts : S
       → IsMadeBy member met parts walk frame frame_later hand later wire after m
   by_frames : met m.copy.at ≡ Some AQueue → m.kind ≡ Interrupt
       → (r : MakesOfQueue transacts_by parts walk frame wire after frame_later) → r.copy ≡ m.copy
+      → m.last ≡ is_last_of walk.index r.copy.queue
       → IsMadeBy member met parts walk frame frame_later hand later wire after m
 
 -- ---- the host's side stays
@@ -300,7 +302,7 @@ module _ (base : Base) (member : ℕ → Bool) (met : ℕ → Option Kind) (part
         let part : IsQueuePart r.copy.at (parts r.copy.at) = (runs.members r.copy.at AQueue k.on).part_is in
         makes_own (frame_asks transacts_by met parts frame p wire after frame_later there r k part
         ((subst (IsSoundQueue (parts r.copy.at)) (found_queue (parts r.copy.at r.copy.at) part.queue r.copy.queue part.here k.here)
-        part.sound).work r.works)) at all (by_frames k.on refl r refl))
+        part.sound).work r.works)) at all (by_frames k.on refl r refl refl))
         (λ (differs : r.copy.at ≢ n).
         frame_goes (ap (λ (ps : StructureSets). ps n) all)
         (unsettled_before (copied_unsettled (queue_hand frame) r.copy (ap queue_hand r.in_hand)))

@@ -1,21 +1,29 @@
--- What a translator's pipeline has of a key wasn't told where nothing of it is worked.
-use Rattle.std.proofs.Common.{◌≡◌, ℕ, zero, suc, Bool, true, false, if◌then◌else◌, List, [], ◌∷◌, slice_get, Option, Some, None, refl}
+-- What a translator's pipeline has of a key wasn't told where nothing of it is worked; and nothing is to come of it where its result is
+-- there.
+use Rattle.std.proofs.Common.{◌≡◌, nat_le, ℕ, zero, suc, Bool, true, false, if◌then◌else◌, List, [], ◌∷◌, slice_get, Option, Some, None, refl}
 use Rattle.std.proofs.Common.{sym, subst, ap, ◌∙◌, ⊎_elim}
 use Rattle.std.specs.List.{find}
 use Rattle.std.proofs.lemmas.Option.{same_Some}
+use Rattle.usb_base.specs.declared.packets.EpKind.{EpKind}
+use Rattle.usb_base.specs.declared.packets.EpKind.TheVariants.{Interrupt}
+use Rattle.usb_base.specs.declared.packets.Reply.{Reply}
 use Rattle.hub_keys.specs.declared.key.Key.{Key}
 use Rattle.tt_pipeline.specs.declared.entry.Brought.{Brought}
 use Rattle.tt_pipeline.specs.declared.entry.Entry.{Entry}
 use Rattle.tt_pipeline.specs.declared.entry.Exchange.{Exchange}
+use Rattle.tt_pipeline.specs.declared.entry.Exchange.TheVariants.{Ahead, Made}
+use Rattle.tt_pipeline.specs.declared.rows.AnswerRow.TheVariants.{Result, NotYet}
+use Rattle.tt_pipeline.specs.Answers.{made_row, row_at, result_of}
 use Rattle.tt_pipeline.specs.Starting.{has_key}
-use Rattle.tt_pipeline.specs.Work.{nothing_brought}
+use Rattle.tt_pipeline.specs.Work.{called_for, nothing_brought}
 use Rattle.multi_tt.specs.Translators.{Translator}
 use Rattle.hub_class.specs.HubContent.{HubContent}
 use Rattle.law_translated.specs.Lift.{Piped}
 use Rattle.law_translated.specs.KeyHubs.{HasAt}
 use Rattle.law_translated.specs.KeyLaws.{Has}
-use Rattle.law_translated.specs.KeySlots.{KeySlot, exchange_slot, slot_if, AreEntries, IfOwn, IsWhole, IsNew, IsWorking}
+use Rattle.law_translated.specs.KeySlots.{KeySlot, shown, exchange_slot, slot_if, AreEntries, IfOwn, IsWhole, IsNew, IsWorking}
 use Rattle.law_below_hubs.specs.HubsKeys.{HubsHave}
+use Rattle.law_below_hubs.specs.HostIns.{IsOver, IsResult, ResultIsOver}
 use Rattle.law_below_hubs.specs.HostOuts.{IsUntold, UnworkedIsUntold}
 
 -- ---- where it is
@@ -82,3 +90,41 @@ unworked_is_untold k i place w unworked s has =
         subst (λ (o : Option Entry). IsUntold (slot_if z.slot.is_told z.slot.packet o)) (sym is)
         (unworked_by z.slot.is_told z.slot.packet e
         (unworked_ahead e (whole_entry k t.pipeline e z.keyed.entries is) (none e is)))
+
+-- ---- its result is there
+
+result_by : (is_told : Bool) (packet : List ℕ) (e : Entry) (x : Exchange) → e.exchange ≡ x → e.ask.kind ≡ Interrupt
+    → row_at x e ≡ Result → IsOver (exchange_slot is_told packet x e)
+result_by is_told packet e (Ahead sent) is kind there = absurd (let n : NotYet ≡ Result = there in cc)
+result_by is_told packet e (Made reply) is kind there = by (nat_le (called_for e) e.done) is_told made
+  where
+    made : (if nat_le (called_for e) e.done then Result else NotYet) ≡ Result
+    made = subst (λ (k : EpKind). made_row k e.ask.pid reply e ≡ Result) kind there
+
+    by : (b told : Bool) → (if b then Result else NotYet) ≡ Result
+        → IsOver (shown b told (record { ask = e.ask; packet = packet; stuff = e.stuff }) (result_of reply))
+    by true true on = tt
+    by true false on = tt
+    by false told on = absurd (let n : NotYet ≡ Result = on in cc)
+
+-- all of it is worked
+worked_whole : (e : Entry) → IsWhole e → (e.heard ≡ nothing_brought → ⊥) → e.heard.whole ≡ true
+worked_whole e w some =
+    ⊎_elim (λ (n : IsNew e). absurd (some n.heard)) (λ (k : IsWorking e). ap (λ (b : Brought). b.whole) (k.heard ∙ w.came)) w.age
+
+pub result_is_over : ResultIsOver
+result_is_over k i place w results s has =
+    let a : AtHub k i place w.bus.hubs s = at_hub k i place w.bus.hubs s has in
+    let t : Translator = a.at.translator in
+    subst IsOver a.at.has.slot.is (by t (λ e found. results a.hub t e a.here a.at.there found) a.at.has (find
+    (has_key k) t.pipeline) refl)
+  where
+    by : (t : Translator) → ((e : Entry) → find (has_key k) t.pipeline ≡ Some e → IsResult e) → (z : Has Piped k t s)
+        → (o : Option Entry) → find (has_key k) t.pipeline ≡ o
+        → IsOver (slot_if z.slot.is_told z.slot.packet (find (has_key k) t.pipeline))
+    by t there z None is = subst (λ (o : Option Entry). IsOver (slot_if z.slot.is_told z.slot.packet o)) (sym is) tt
+    by t there z (Some e) is =
+        let w_is : IsWhole e = whole_entry k t.pipeline e z.keyed.entries is in
+        let r : IsResult e = there e is in
+        subst (λ (o : Option Entry). IsOver (slot_if z.slot.is_told z.slot.packet o)) (sym is)
+        (result_by z.slot.is_told z.slot.packet e e.exchange refl w_is.kind (r.there w_is.kind (worked_whole e w_is r.worked)))

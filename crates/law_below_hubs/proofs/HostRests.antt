@@ -24,7 +24,7 @@ use Rattle.law_ring.proofs.Stopping.{row_stops}
 use Rattle.law_below_hubs.specs.HostIns.{IsInBelow}
 use Rattle.law_below_hubs.specs.HostOuts.{IsOutBelow}
 use Rattle.law_below_hubs.proofs.HostInSettles.{InSettles, in_settles}
-use Rattle.law_below_hubs.proofs.HostInSettles.InSettles.{took, too_long, repeated, is_refused as in_refused, is_stalled as in_stalled}
+use Rattle.law_below_hubs.proofs.HostInSettles.InSettles.{took, too_long, repeated, is_refused as in_refused, is_stalled as in_stalled, broke, gave_up}
 use Rattle.law_below_hubs.proofs.HostInSettles.InSettles.{goes_on as in_goes_on}
 use Rattle.law_below_hubs.proofs.HostSettles.{start_settles, OutSettles, out_settles}
 use Rattle.law_below_hubs.proofs.HostSettles.OutSettles.{is_acked, moves_none}
@@ -51,12 +51,13 @@ pub in_none_moved : (q : Qh) (t : Qtd) (z : Settlement) (bs : List ℕ) → q.to
 in_none_moved q t z bs inward none =
     ap (λ (code : ℕ). if code == 1 then z.got else take (moved_by z.outcome) (drop (buffer_place q - t.offset) bs)) inward ∙ none
 
-pub in_none_got : (q : Qh) (out : List ℕ) (reply : Reply) → q.token.pid ≡ 1 → length out ≡ (transaction_of Kinds.Bulk q).bytes
-    → is_moved (settlement_as Kinds.Bulk q out false reply).outcome ≡ false → (settlement_as Kinds.Bulk q out false reply).got ≡ []
-in_none_got q out reply inward count still =
-    let s : Settles Kinds.Bulk q out false reply = a_transaction_settles Kinds.Bulk q out false reply count in
-    none_of (settlement_as Kinds.Bulk q out false reply).got
-    (s.bytes.all (ap pid_at inward) ∙ by_none (settlement_as Kinds.Bulk q out false reply).outcome still)
+pub in_none_got : (kind : EpKind) (last : Bool) (q : Qh) (out : List ℕ) (reply : Reply) → q.token.pid ≡ 1
+    → length out ≡ (transaction_of kind q).bytes → is_moved (settlement_as kind q out last reply).outcome ≡ false
+    → (settlement_as kind q out last reply).got ≡ []
+in_none_got kind last q out reply inward count still =
+    let s : Settles kind q out last reply = a_transaction_settles kind q out last reply count in
+    none_of (settlement_as kind q out last reply).got
+    (s.bytes.all (ap pid_at inward) ∙ by_none (settlement_as kind q out last reply).outcome still)
 
 -- ---- the host after it
 
@@ -89,36 +90,38 @@ own_out_rests kind last q out reply streams at count off going = by (is_moved (s
         (host_in q))
         (host_in q) at.works still off))
 
-pub own_in_rests : (q : Qh) (out : List ℕ) (reply : Reply) → IsInBelow q → q.token.active ≡ true
-    → (settlement_as Kinds.Bulk q out false reply).host.active ≡ false → (settlement_as Kinds.Bulk q out false reply).host.halted ≡ false
-    → (settlement_as Kinds.Bulk q out false reply).host.waiting ≡ false
-own_in_rests q out reply at works off going =
-    by (is_moved (settlement_as Kinds.Bulk q out false reply).outcome) refl
+pub own_in_rests : (kind : EpKind) (last : Bool) (q : Qh) (out : List ℕ) (reply : Reply) → has_stream kind ≡ true → IsInBelow q → q.token.active ≡ true
+    → (settlement_as kind q out last reply).host.active ≡ false → (settlement_as kind q out last reply).host.halted ≡ false
+    → (settlement_as kind q out last reply).host.waiting ≡ false
+own_in_rests kind last q out reply streams at works off going =
+    by (is_moved (settlement_as kind q out last reply).outcome) refl
   where
-    never : {A : Type 0} → is_moved (settlement_as Kinds.Bulk q out false reply).outcome ≡ true
-        → is_moved (settlement_as Kinds.Bulk q out false reply).outcome ≡ false → A
+    never : {A : Type 0} → is_moved (settlement_as kind q out last reply).outcome ≡ true
+        → is_moved (settlement_as kind q out last reply).outcome ≡ false → A
     never on still = absurd (false≢true (sym still ∙ on))
 
-    complete : (r : Reply) → is_moved (settlement_as Kinds.Bulk q out false reply).outcome ≡ true
-        → InSettles q (settlement_as Kinds.Bulk q out false reply) r → (settlement_as Kinds.Bulk q out false reply).host.waiting ≡ false
+    complete : (r : Reply) → is_moved (settlement_as kind q out last reply).outcome ≡ true
+        → InSettles kind last q (settlement_as kind q out last reply) r → (settlement_as kind q out last reply).host.waiting ≡ false
     complete _ on (took pid bs same outcome got idle) = idle
     complete _ on (too_long pid bs same still idle halted) = idle
     complete _ on (repeated pid bs differs still idle) = idle
     complete _ on (in_refused still idle) = idle
     complete _ on (in_stalled still idle halted) = idle
+    complete _ on (broke periodic still idle) = idle
+    complete _ on (gave_up periodic at_last still idle) = idle
     complete r on (in_goes_on _ still late) = never on still
 
-    by_state : (b : Bool) → q.token.split_state ≡ b → is_moved (settlement_as Kinds.Bulk q out false reply).outcome ≡ true
-        → (settlement_as Kinds.Bulk q out false reply).host.waiting ≡ false
-    by_state true state on = complete reply on (in_settles q out reply at.below state at.inward)
-    by_state false state on = never on (start_settles Kinds.Bulk false q 1 out reply refl at.below state at.inward).still
+    by_state : (b : Bool) → q.token.split_state ≡ b → is_moved (settlement_as kind q out last reply).outcome ≡ true
+        → (settlement_as kind q out last reply).host.waiting ≡ false
+    by_state true state on = complete reply on (in_settles kind last q out reply streams at.below state at.inward)
+    by_state false state on = never on (start_settles kind last q 1 out reply streams at.below state at.inward).still
 
-    by : (b : Bool) → is_moved (settlement_as Kinds.Bulk q out false reply).outcome ≡ b
-        → (settlement_as Kinds.Bulk q out false reply).host.waiting ≡ false
+    by : (b : Bool) → is_moved (settlement_as kind q out last reply).outcome ≡ b
+        → (settlement_as kind q out last reply).host.waiting ≡ false
     by true on = by_state q.token.split_state refl on
     by false still =
         absurd (false≢true (sym going ∙ row_stops
-        (settle_row (call_in (transaction_of Kinds.Bulk q) out false).ask
-        (moving_of (transaction_of Kinds.Bulk q).split (transaction_of Kinds.Bulk q).pipe.pid (host_in q) (length out)) false reply
+        (settle_row (call_in (transaction_of kind q) out last).ask
+        (moving_of (transaction_of kind q).split (transaction_of kind q).pipe.pid (host_in q) (length out)) last reply
         (host_in q))
         (host_in q) works still off))

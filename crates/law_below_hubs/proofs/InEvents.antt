@@ -1,14 +1,14 @@
--- Each event of the controller leaves a bulk IN endpoint below a hub as it must stand.
-use Rattle.std.proofs.Common.{◌≡◌, ◌≢◌, ℕ, ◌==◌, ◌-◌, Bool, true, false, not, if◌then◌else◌, List, [], ◌++◌, take, drop, Option, Some}
+-- Each event of the controller leaves a bulk or interrupt IN endpoint below a hub as it must stand.
+use Rattle.std.proofs.Common.{◌≡◌, ◌≢◌, ℕ, ◌==◌, ◌%◌, ◌-◌, Bool, true, false, not, if◌then◌else◌, List, [], ◌++◌, take, drop, Option, Some}
 use Rattle.std.proofs.Common.{ap, refl, sym, subst, ◌∙◌, ⊎_elim}
-use Rattle.std.proofs.lemmas.Bool.{cases_eq, eq-eqb, false≢true}
+use Rattle.std.proofs.lemmas.Bool.{cases_eq, eq-eqb, eqb-true, false≢true}
 use Rattle.std.proofs.lemmas.List.{append-nil}
 use Rattle.usb_base.specs.declared.packets.Ask.{Ask}
 use Rattle.usb_base.specs.declared.packets.Dir.TheVariants as Directions
 use Rattle.usb_base.specs.declared.packets.EpKind.{EpKind}
 use Rattle.usb_base.specs.declared.packets.EpKind.TheVariants as Kinds
 use Rattle.hub_keys.specs.declared.key.Key.{Key}
-use Rattle.bus_wire.specs.Bus.{Wired}
+use Rattle.bus_wire.specs.Bus.{Wired, begin_after}
 use Rattle.qh_qtd.specs.declared.qtd.Qtd.{Qtd}
 use Rattle.qh_qtd.specs.declared.queue_head.Qh.{Qh}
 use Rattle.drv_table.specs.DriverContent.{DriverContent}
@@ -19,6 +19,7 @@ use Rattle.hc_copy.specs.Transacting.{call_in}
 use Rattle.async_walk.specs.Naks.{kind_at}
 use Rattle.hc_core.specs.Controller.{Content}
 use Rattle.claims_base.specs.Controller.{Base}
+use Rattle.claims_report.specs.Streams.{has_stream}
 use Rattle.law_structures.specs.lent_structures.Settles.{is_moved, Settles}
 use Rattle.law_structures.specs.lent_structures.Structures.{QueueHead, Structures, StructureSets}
 use Rattle.law_structures.specs.lent_structures.Alters.{HadElement, Alters}
@@ -50,12 +51,12 @@ use Rattle.law_descriptors.proofs.Standing.{both_off}
 use Rattle.law_descriptors.proofs.Telling.{queue_off}
 use Rattle.law_descriptors.proofs.lemmas.queue_events.Events.{both_keeps_structures}
 use Rattle.law_below_hubs.specs.HostOuts.{IsOfOther}
-use Rattle.law_below_hubs.specs.HostIns.{InSide, IsInBelow}
+use Rattle.law_below_hubs.specs.HostIns.{in_key, begun_timely, InSide, IsInTime, IsInBelow}
 use Rattle.law_below_hubs.specs.HostEvents.{hand_host, RestsToStart, StartsFirst, IsHostLike, told_key, IsInBehind, AsksAlone}
-use Rattle.law_below_hubs.specs.HostEvents.{SparesKeyNow, EventKeepsInBehind}
+use Rattle.law_below_hubs.specs.HostEvents.{IsWalkedAs, AsksInTime, StaysInTime, SparesKeyNow, EventKeepsInBehind}
 use Rattle.law_below_hubs.specs.Splits.{IsAtHub}
 use Rattle.law_below_hubs.proofs.HostAsks.{host_toggle, first_still, asks_other}
-use Rattle.law_below_hubs.proofs.HostInBeside.{others_leave_in, begin_leaves_in}
+use Rattle.law_below_hubs.proofs.HostInBeside.{others_leave_in, begin_leaves_in, less_timely}
 use Rattle.law_below_hubs.proofs.HostCarries.{HostStays, IsUnmade, IsMadeBy, by_ring, by_frames, HostGoes, makes_own, stays, host_goes}
 use Rattle.law_below_hubs.proofs.HostIns.{own_in_goes_on}
 use Rattle.law_below_hubs.proofs.HostRests.{own_in_rests, in_none_moved, in_none_got}
@@ -66,17 +67,28 @@ in_still part now alters ins a u here on =
     let same : u ≡ had.qtd = still_active had.qtd u had.after on in
     ap (λ (t : Qtd). t.token.pid) same ∙ ins a had.qtd had.here (ap (λ (t : Qtd). t.token.active) (sym same) ∙ on)
 
-module _ (packets : List (List ℕ)) (near : ℕ → Bool) (n : ℕ) (x : Endpoint) (i place : ℕ) (known : List ℕ) (base : Base) (member : ℕ → Bool)
-    (met : ℕ → Option Kind) (d : DriverContent) (descs parts : StructureSets) (hand : Hand) (frame : FrameHand) (c : Content)
+-- whether it is in time once the microframe began
+begun_in_time : (index : ℕ) (waiting timely still : Bool) → (still ≡ true → timely ≡ true)
+    → (still ≡ true → index % 8 ≡ 0 → waiting ≡ false) → still ≡ true → begun_timely index waiting timely ≡ true
+begun_in_time index waiting timely still before off on = by (index % 8 == 0) refl
+  where
+    by : (b : Bool) → (index % 8 == 0) ≡ b → (if b then not waiting else timely) ≡ true
+    by true is = ap not (off on (eqb-true (index % 8) 0 is))
+    by false is = before on
+
+module _ (kind : EpKind) (packets : List (List ℕ)) (near : ℕ → Bool) (n : ℕ) (x : Endpoint) (i place : ℕ) (timely still : Bool)
+    (known : List ℕ) (base : Base) (member : ℕ → Bool) (met : ℕ → Option Kind) (d : DriverContent) (descs parts : StructureSets) (hand : Hand) (frame : FrameHand) (c : Content)
     (wire after : Wired) (now : StructureSets) (later : Hand) (frame_later : FrameHand) (describing : IsDescribing d descs parts)
     (runs : RunsBoth base member met (both descs parts) hand frame c)
     (effect : BothEffect begins_by transacts_by (both descs parts) c.control hand frame wire after now later frame_later)
     (asked : AskedAreNear near parts (joined hand frame)) (alone : AsksAlone Directions.In near parts n x)
-    (iso : (ask : Ask) → IsIsoAsk (both descs parts) ask → IsOfOther (told_key Kinds.Bulk Directions.In x) ask)
-    (unmet : met n ≡ Some AQueue → ⊥) (part_is : IsQueuePart n (parts n)) (part_now : IsQueuePart n (parts_now descs parts now n))
+    (iso : (ask : Ask) → IsIsoAsk (both descs parts) ask → IsOfOther (told_key kind Directions.In x) ask)
+    (streams : has_stream kind ≡ true) (walked : IsWalkedAs kind member met n)
+    (fresh : AsksInTime kind x i place n timely (both descs parts) c.control.frame frame wire after frame_later)
+    (part_is : IsQueuePart n (parts n)) (part_now : IsQueuePart n (parts_now descs parts now n))
     (hub_after : IsAtHub after.bus.hubs x.hub x.port i place) (spares : SparesKeyNow
-    (told_key Kinds.Bulk Directions.In x) i place wire after)
-    (k : IsInBehind packets wire i place known parts (joined hand frame) n x) where
+    (told_key kind Directions.In x) i place wire after)
+    (k : IsInBehind kind packets wire i place timely known parts (joined hand frame) n x) where
   abbrev one : Hand
   one = joined hand frame
 
@@ -93,7 +105,7 @@ module _ (packets : List (List ℕ)) (near : ℕ → Bool) (n : ℕ) (x : Endpoi
   side = hand_host (joined hand frame) n k.queue
 
   abbrev Behind : List ℕ → Type 0
-  Behind ys = IsInBehind packets after i place ys (parts_now descs parts now) (joined later frame_later) n x
+  Behind ys = IsInBehind kind packets after i place still ys (parts_now descs parts now) (joined later frame_later) n x
 
   -- ---- its part
 
@@ -128,8 +140,8 @@ module _ (packets : List (List ℕ)) (near : ℕ → Bool) (n : ℕ) (x : Endpoi
   had = record { queue = q; head = k.head; own = dtc_off; is = host_toggle one n q }
 
   finish : (ys : List ℕ) (r : Qh) → parts_then n n ≡ Some (QueueHead r) → x ≡ endpoint_of r → RestsToStart (hand_host other n r)
-      → InSide packets (told_key Kinds.Bulk Directions.In x) i place after (hand_host other n r).toggle (hand_host other n r).waiting
-      (not (hand_host other n r).halted) ys → Behind ys
+      → InSide packets (told_key kind Directions.In x) i place after (hand_host other n r).toggle (hand_host other n r).waiting
+      (not (hand_host other n r).halted) still ys → Behind ys
   finish ys r here is rests in_side = record {
     queue = r;
     head = here;
@@ -146,20 +158,27 @@ module _ (packets : List (List ℕ)) (near : ℕ → Bool) (n : ℕ) (x : Endpoi
   -- ---- no transaction of it
 
   abbrev InAfter : List ℕ → Type 0
-  InAfter ys = InSide packets (told_key Kinds.Bulk Directions.In x) i place after side.toggle side.waiting (not side.halted) ys
+  InAfter ys = InSide packets (told_key kind Directions.In x) i place after side.toggle side.waiting (not side.halted) still ys
 
   on_off : (b : Bool) → not b ≡ true → b ≡ false
   on_off false e = refl
   on_off true e = absurd (false≢true e)
 
+  less : InSide packets (told_key kind Directions.In x) i place after side.toggle side.waiting (not side.halted) timely known
+      → (still ≡ true → timely ≡ true)
+      → InSide packets (told_key kind Directions.In x) i place after side.toggle side.waiting (not side.halted) still known
+  less o fits =
+      less_timely packets (told_key kind Directions.In x) i place after side.toggle side.waiting (not side.halted) timely still known fits o
+
   with_going : (v : Wired) (h waiting one_goes then_goes : Bool) (ys : List ℕ) → (then_goes ≡ true → one_goes ≡ true)
-      → InSide packets (told_key Kinds.Bulk Directions.In x) i place v h waiting one_goes ys
-      → InSide packets (told_key Kinds.Bulk Directions.In x) i place v h waiting then_goes ys
+      → InSide packets (told_key kind Directions.In x) i place v h waiting one_goes still ys
+      → InSide packets (told_key kind Directions.In x) i place v h waiting then_goes still ys
   with_going v h waiting one_goes then_goes ys goes_too s = record {
     line = s.line;
     wait = s.wait;
     slot = s.slot;
     is_wait = s.is_wait;
+    in_time = s.in_time;
     knows = s.knows;
     expects = s.expects;
     goes = λ on. s.goes (goes_too on);
@@ -170,20 +189,20 @@ module _ (packets : List (List ℕ)) (near : ℕ → Bool) (n : ℕ) (x : Endpoi
   }
 
   quiet : HostStays (both descs parts) now one other n → HasToggle other parts_then n side.toggle → HasEndpoint parts_then n x
-      → InSide packets (told_key Kinds.Bulk Directions.In x) i place after side.toggle side.waiting (not side.halted) known → Behind known
-  quiet still has named in_side =
+      → InSide packets (told_key kind Directions.In x) i place after side.toggle side.waiting (not side.halted) still known → Behind known
+  quiet stays_so has named in_side =
       let r : Qh = has.queue in
       let is : x ≡ endpoint_of r = named.is ∙ ap endpoint_of (found_queue (parts_then n n) named.queue r named.head has.head) in
-      let z : IsHostLike side (hand_host other n r) = still q r head_both (ap (λ (part : Structures). part n) now_is ∙ has.head)
+      let z : IsHostLike side (hand_host other n r) = stays_so q r head_both (ap (λ (part : Structures). part n) now_is ∙ has.head)
       (subst StartsFirst (sym there) k.first) k.rests in
       let toggle : side.toggle ≡ (hand_host other n r).toggle = has.is ∙ sym (host_toggle other n r) in
       finish known r has.head is z.rests
       (with_going after (hand_host other n r).toggle (hand_host other n r).waiting (not side.halted)
       (not (hand_host other n r).halted) known
       (λ on. ap not (z.halted (on_off (hand_host other n r).halted on)))
-      (subst (λ (b : Bool). InSide packets (told_key Kinds.Bulk Directions.In x) i place after b (hand_host other n r).waiting
-      (not side.halted) known) toggle
-      (subst (λ (b : Bool). InSide packets (told_key Kinds.Bulk Directions.In x) i place after side.toggle b (not side.halted) known)
+      (subst (λ (b : Bool). InSide packets (told_key kind Directions.In x) i place after b (hand_host other n r).waiting
+      (not side.halted) still known) toggle
+      (subst (λ (b : Bool). InSide packets (told_key kind Directions.In x) i place after side.toggle b (not side.halted) still known)
       (sym z.waiting)
       in_side)))
 
@@ -191,64 +210,63 @@ module _ (packets : List (List ℕ)) (near : ℕ → Bool) (n : ℕ) (x : Endpoi
   nothing_more ys none b = subst Behind (sym (ap (λ (zs : List ℕ). known ++ zs) none ∙ append-nil known)) b
 
   told_quiet : HostStays (both descs parts) now one other n → SameTold one parts other parts_then
-      → InSide packets (told_key Kinds.Bulk Directions.In x) i place after side.toggle side.waiting (not side.halted) known → Behind known
-  told_quiet still told s =
-      quiet still (told.toggle n side.toggle had) (told.endpoint n x (record { queue = q; head = k.head; is = k.is })) s
+      → InSide packets (told_key kind Directions.In x) i place after side.toggle side.waiting (not side.halted) still known → Behind known
+  told_quiet stays_so told s =
+      quiet stays_so (told.toggle n side.toggle had) (told.endpoint n x (record { queue = q; head = k.head; is = k.is })) s
 
-  module _ (still : HostStays (both descs parts) now one other n) (unmade : IsUnmade (both descs parts) now one other n) where
+  module _ (stays_so : HostStays (both descs parts) now one other n) (unmade : IsUnmade (both descs parts) now one other n) where
     beside : (m : Asks transacts_by parts one wire after other) → m.copy.at ≢ n → parts_then ≡ parts
-        → Grows one parts other m.copy (came_to m) m.sent.element → Behind known
-    beside m differs all g =
+        → Grows one parts other m.copy (came_to m) m.sent.element → (still ≡ true → timely ≡ true) → Behind known
+    beside m differs all g fits =
         let b = alone m.copy.at (asked m.copy m.in_hand m.here m.works) differs in
         let is : b.0 ≡ endpoint_of m.copy.queue = b.1.is
         ∙ ap endpoint_of (found_queue (parts m.copy.at m.copy.at) b.1.queue m.copy.queue b.1.head m.here) in
-        let else_asked : IsOfOther (told_key Kinds.Bulk Directions.In x) (call_in (transaction_of m.kind m.copy.queue) m.out m.last).ask =
-        asks_other Kinds.Bulk Directions.In (parts m.copy.at) m.copy.at m.copy.queue m.kind m.out m.last x b.0 m.part_is m.here m.works is
-        b.2 in
-        quiet still
+        let else_asked : IsOfOther (told_key kind Directions.In x) (call_in (transaction_of m.kind m.copy.queue) m.out m.last).ask =
+        asks_other kind Directions.In (parts m.copy.at) m.copy.at m.copy.queue m.kind m.out m.last x b.0 m.part_is m.here m.works is b.2 in
+        quiet stays_so
         (subst (λ (ps : StructureSets). HasToggle other ps n side.toggle) (sym all)
         (g.other_toggles n side.toggle (λ (at : n ≡ m.copy.at). differs (sym at)) had))
         (subst (λ (ps : StructureSets). HasEndpoint ps n x) (sym all) (record { queue = q; head = k.head; is = k.is }))
-        (others_leave_in packets (told_key Kinds.Bulk Directions.In x) i place wire (call_in
+        (less (others_leave_in packets (told_key kind Directions.In x) i place wire (call_in
         (transaction_of m.kind m.copy.queue) m.out m.last).ask
         (call_in (transaction_of m.kind m.copy.queue) m.out m.last).out m.reply after side.toggle side.waiting
-        (not side.halted) known refl refl
-        else_asked
+        (not side.halted) timely known refl streams else_asked
         (spares (call_in (transaction_of m.kind m.copy.queue) m.out m.last).ask
         (call_in (transaction_of m.kind m.copy.queue) m.out m.last).out
-        m.reply m.made) m.made k.side)
+        m.reply m.made) m.made k.side) fits)
+
+    abbrev SideAt : Wired → Bool → Type 0
+    SideAt v on = InSide packets (told_key kind Directions.In x) i place v side.toggle side.waiting (not side.halted) on known
 
     still_by : (z : BothStreamEffect begins_by (IsIsoAsk (both descs parts)) transacts_by parts one wire after parts_then other)
-        → Behind (known ++ bytes_of_both n z)
-    still_by (begun index allowed begins told) =
+        → StaysInTime z side timely still → Behind (known ++ bytes_of_both n z)
+    still_by (begun index allowed begins told) on_time =
         nothing_more [] refl
-        (told_quiet still told
-        (subst (λ (v : Wired). InSide packets (told_key Kinds.Bulk Directions.In x) i place v side.toggle side.waiting
-        (not side.halted) known)
-        (sym begins.1)
-        (begin_leaves_in packets (told_key Kinds.Bulk Directions.In x) i place index wire side.toggle side.waiting
-        (not side.halted) known refl k.side)))
-    still_by (moved (same told quiet_wire)) =
+        (told_quiet stays_so told
+        (subst (λ (v : Wired). SideAt v still) (sym begins.1)
+        (less_timely packets (told_key kind Directions.In x) i place (record wire { bus = begin_after wire.fixed index wire.bus }) side.toggle
+        side.waiting (not side.halted) (begun_timely index side.waiting timely) still known
+        (begun_in_time index side.waiting timely still on_time.before on_time.begun)
+        (begin_leaves_in packets (told_key kind Directions.In x) i place index wire side.toggle side.waiting
+        (not side.halted) timely known refl streams k.side))))
+    still_by (moved (same told quiet_wire)) on_time =
         nothing_more [] refl
-        (told_quiet still told
-        (subst (λ (v : Wired). InSide packets (told_key Kinds.Bulk Directions.In x) i place v side.toggle side.waiting
-        (not side.halted) known)
-        (sym quiet_wire)
-        k.side))
-    still_by (moved (aside told ask out reply is_iso made)) =
+        (told_quiet stays_so told (subst (λ (v : Wired). SideAt v still) (sym quiet_wire)
+        (less_timely packets (told_key kind Directions.In x) i place wire side.toggle side.waiting (not side.halted) timely still known
+        on_time.before k.side)))
+    still_by (moved (aside told ask out reply is_iso made)) on_time =
         nothing_more [] refl
-        (told_quiet still told
-        (others_leave_in packets (told_key Kinds.Bulk Directions.In x) i place wire ask out reply after side.toggle side.waiting
-        (not side.halted) known refl
-        refl (iso ask is_iso) (spares ask out reply made) made k.side))
-    still_by (moved (grows m all g)) =
+        (told_quiet stays_so told
+        (less (others_leave_in packets (told_key kind Directions.In x) i place wire ask out reply after side.toggle side.waiting
+        (not side.halted) timely known refl streams (iso ask is_iso) (spares ask out reply made) made k.side) on_time.before))
+    still_by (moved (grows m all g)) on_time =
         ⊎_elim
         (λ (at : m.copy.at ≡ n). absurd (unmade m.held (came_to m) m.later_is (m.at_same ∙ at) m.copy m.in_hand))
         (λ (differs : m.copy.at ≢ n).
         nothing_more (bytes_of_both {begins = begins_by} {Beside = IsIsoAsk (both descs parts)} n (moved (grows m all g)))
         (ap (λ (b : Bool). if b then moved_bytes m.copy.queue m.sent.element (came_to m)
         (buffer_of (parts m.copy.at) m.sent.element) else [])
-        (other_number m.copy.at n differs)) (beside m differs all g))
+        (other_number m.copy.at n differs)) (beside m differs all g on_time.before))
         (cases_eq m.copy.at n)
 
   -- ---- its own transaction
@@ -273,27 +291,49 @@ module _ (packets : List (List ℕ)) (near : ℕ → Bool) (n : ℕ) (x : Endpoi
       goes_on = working.goes_on;
     }
 
-    -- the ring makes it
-    kinds_are : (m.kind ≡ Kinds.Bulk) × (m.last ≡ false)
-    kinds_are = by makes
+    -- it is made by the walk that meets the queue head
+    kind_is : m.kind ≡ kind
+    kind_is = by kind refl makes
       where
-        by : Made m → (m.kind ≡ Kinds.Bulk) × (m.last ≡ false)
-        by (by_ring on kind_at_is never) = (kind_at_is ∙ ap kind_at (ap (λ (y : Qh). y.dtc) queue_is ∙ dtc_off), never)
-        by (by_frames on framed r one_copy) = absurd (unmet (ap met (sym at) ∙ on))
+        by : (y : EpKind) → kind ≡ y → Made m → m.kind ≡ kind
+        by Kinds.Bulk is (by_ring on kind_at_is never) =
+            kind_at_is ∙ ap kind_at (ap (λ (y : Qh). y.dtc) queue_is ∙ dtc_off) ∙ sym is
+        by Kinds.Bulk is (by_frames on framed r one_copy last_is) =
+            absurd (subst (λ (y : EpKind). IsWalkedAs y member met n) is walked (ap met (sym at) ∙ on))
+        by Kinds.Interrupt is (by_ring on kind_at_is never) =
+            absurd (subst (λ (y : EpKind). IsWalkedAs y member met n) is walked (ap member (sym at) ∙ on))
+        by Kinds.Interrupt is (by_frames on framed r one_copy last_is) = framed ∙ sym is
+        by Kinds.Control is made_so = absurd (false≢true (ap has_stream (sym is) ∙ streams))
+        by Kinds.Iso is made_so = absurd (false≢true (ap has_stream (sym is) ∙ streams))
+
+    key_is : in_key kind q ≡ told_key kind Directions.In x
+    key_is = sym (ap (told_key kind Directions.In) k.is)
+
+    in_time : kind ≡ Kinds.Interrupt → IsInTime (in_key kind q) i place wire q.token.split_state m.last timely
+    in_time is = by makes
+      where
+        by : Made m → IsInTime (in_key kind q) i place wire q.token.split_state m.last timely
+        by (by_ring on kind_at_is never) =
+            absurd (subst (λ (y : EpKind). IsWalkedAs y member met n) is walked (ap member (sym at) ∙ on))
+        by (by_frames on framed r one_copy last_is) =
+            subst (λ (key : Key). IsInTime key i place wire q.token.split_state m.last timely) (sym key_is)
+            (subst (λ (b : Bool). IsInTime (told_key kind Directions.In x) i place wire b m.last timely)
+            (ap (λ (e : Copy). e.queue.token.split_state) one_copy ∙ ap (λ (y : Qh). y.token.split_state) queue_is)
+            (subst (λ (b : Bool). IsInTime (told_key kind Directions.In x) i place wire r.copy.queue.token.split_state b timely)
+            (sym last_is) (fresh is r (ap (λ (e : Copy). e.at) one_copy ∙ at))))
 
     -- what is known of the transaction, by the queue head and its kind
-    record IsMade (y : Qh) (kind : EpKind) (last : Bool) : Type 0 where
-      sent : AreSent (parts n) y (transaction_of kind y).bytes m.out
-      made : transacts_by wire (call_in (transaction_of kind y) m.out last).ask
-          (call_in (transaction_of kind y) m.out last).out m.reply after
-      left : other ≡ Settled m.held (settlement_as kind y m.out last m.reply)
+    record IsMade (y : Qh) (its : EpKind) : Type 0 where
+      sent : AreSent (parts n) y (transaction_of its y).bytes m.out
+      made : transacts_by wire (call_in (transaction_of its y) m.out m.last).ask
+          (call_in (transaction_of its y) m.out m.last).out m.reply after
+      left : other ≡ Settled m.held (settlement_as its y m.out m.last m.reply)
       element : sent.element ≡ m.sent.element
 
-    is_made : IsMade q Kinds.Bulk false
+    is_made : IsMade q kind
     is_made =
-        subst (λ (y : Qh). IsMade y Kinds.Bulk false) queue_is
-        (subst (IsMade m.copy.queue Kinds.Bulk) kinds_are.1
-        (subst (λ (x : EpKind). IsMade m.copy.queue x m.last) kinds_are.0
+        subst (λ (y : Qh). IsMade y kind) queue_is
+        (subst (IsMade m.copy.queue) kind_is
         (record {
           sent = record {
             element = m.sent.element;
@@ -308,53 +348,56 @@ module _ (packets : List (List ℕ)) (near : ℕ → Bool) (n : ℕ) (x : Endpoi
           made = m.made;
           left = m.later_is;
           element = refl;
-        })))
+        }))
 
     abbrev z : Settlement
-    z = settlement_as Kinds.Bulk k.queue m.out false m.reply
+    z = settlement_as kind k.queue m.out m.last m.reply
 
     abbrev bytes : List ℕ
-    bytes = moved_bytes k.queue is_made.sent.element (settlement_as Kinds.Bulk k.queue m.out false m.reply)
+    bytes = moved_bytes k.queue is_made.sent.element (settlement_as kind k.queue m.out m.last m.reply)
         (buffer_of (parts n) is_made.sent.element)
 
     before : side ≡ host_in q
     before = ap (λ (l : Hand). hand_host l n q) m.in_hand
 
-    behind : (settlement_as Kinds.Bulk k.queue m.out false m.reply).host ≡ hand_host other n q
+    behind : (settlement_as kind k.queue m.out m.last m.reply).host ≡ hand_host other n q
     behind = sym (ap (λ (l : Hand). hand_host l n q) is_made.left
         ∙ ap (λ (b : Bool). if b then z.host else host_in q) (eq-eqb m.held.at n (m.at_same ∙ at)))
 
     abbrev Side : HostSide → Wired → List ℕ → Type 0
-    Side host v ys = InSide packets (told_key Kinds.Bulk Directions.In x) i place v host.toggle host.waiting (not host.halted) ys
+    Side host v ys = InSide packets (told_key kind Directions.In x) i place v host.toggle host.waiting (not host.halted) timely ys
 
     side_then : Side z.host after (known ++ bytes)
     side_then =
-        subst (λ (key : Key). InSide packets key i place after z.host.toggle z.host.waiting (not z.host.halted) (known ++ bytes))
-        (sym (ap (told_key Kinds.Bulk Directions.In) k.is))
-        (own_in_goes_on packets (parts n) q i place wire after known m.out m.reply below
-        (subst (λ (e : Endpoint). IsAtHub wire.bus.hubs e.hub e.port i place) k.is k.hub) is_made.sent is_made.made
-        (subst (λ (key : Key). InSide packets key i place wire q.token.toggle q.token.split_state (not q.token.halted) known)
-        (ap (told_key Kinds.Bulk Directions.In) k.is)
+        subst (λ (key : Key). InSide packets key i place after z.host.toggle z.host.waiting (not z.host.halted) timely
+        (known ++ bytes))
+        (sym (ap (told_key kind Directions.In) k.is))
+        (own_in_goes_on kind m.last packets (parts n) q i place wire after timely known m.out m.reply streams below
+        (subst (λ (e : Endpoint). IsAtHub wire.bus.hubs e.hub e.port i place) k.is k.hub) is_made.sent is_made.made in_time
+        (subst (λ (key : Key). InSide packets key i place wire q.token.toggle q.token.split_state (not q.token.halted) timely known)
+        (ap (told_key kind Directions.In) k.is)
         (subst (λ (host : HostSide). Side host wire known) before k.side)))
 
     part_same : parts_then n ≡ parts n
     part_same = sym now_is ∙ ap (λ (ps : StructureSets). ps n) all ∙ there
 
-    own : Behind (known ++ bytes)
-    own =
+    own : (still ≡ true → timely ≡ true) → Behind (known ++ bytes)
+    own fits =
         finish (known ++ bytes) q (ap (λ (part : Structures). part n) part_same ∙ k.head) k.is
-        (subst RestsToStart behind (own_in_rests q m.out m.reply below works))
-        (subst (λ (host : HostSide). Side host after (known ++ bytes)) behind side_then)
+        (subst RestsToStart behind (own_in_rests kind m.last q m.out m.reply streams below works))
+        (less_timely packets (told_key kind Directions.In x) i place after (hand_host other n q).toggle (hand_host other n q).waiting
+        (not (hand_host other n q).halted) timely still (known ++ bytes) fits
+        (subst (λ (host : HostSide). Side host after (known ++ bytes)) behind side_then))
 
     -- the bytes that it moved are those that are told
-    settled_so : Settles Kinds.Bulk q m.out false m.reply
-    settled_so = a_transaction_settles Kinds.Bulk q m.out false m.reply is_made.sent.all
+    settled_so : Settles kind q m.out m.last m.reply
+    settled_so = a_transaction_settles kind q m.out m.last m.reply is_made.sent.all
 
     unturned : z.host.toggle ≡ q.token.toggle → is_moved z.outcome ≡ false
     unturned same_one = by (is_moved z.outcome) refl
       where
-        by : (b : Bool) → is_moved (settlement_as Kinds.Bulk k.queue m.out false m.reply).outcome ≡ b
-            → is_moved (settlement_as Kinds.Bulk k.queue m.out false m.reply).outcome ≡ false
+        by : (b : Bool) → is_moved (settlement_as kind k.queue m.out m.last m.reply).outcome ≡ b
+            → is_moved (settlement_as kind k.queue m.out m.last m.reply).outcome ≡ false
         by false still = still
         by true on =
             absurd (not_itself q.token.toggle (sym same_one ∙ settled_so.host.toggle
@@ -366,7 +409,7 @@ module _ (packets : List (List ℕ)) (near : ℕ → Bool) (n : ℕ) (x : Endpoi
         let now_toggle : side.toggle ≡ z.host.toggle = has.is ∙ ap (λ (l : Hand). hand_toggle l n has.queue) is_made.left
         ∙ ap (λ (b : Bool). if b then z.host.toggle else has.queue.token.toggle) (eq-eqb m.held.at n (m.at_same ∙ at)) in
         in_none_moved q is_made.sent.element z (buffer_of (parts n) is_made.sent.element) below.inward
-        (in_none_got q m.out m.reply below.inward is_made.sent.all
+        (in_none_got kind m.last q m.out m.reply below.inward is_made.sent.all
         (unturned (sym now_toggle ∙ ap (λ (host : HostSide). host.toggle) before)))
 
     grown : (a : Asks transacts_by parts one wire after other) (same_parts : parts_then ≡ parts)
@@ -403,21 +446,21 @@ module _ (packets : List (List ℕ)) (near : ℕ → Bool) (n : ℕ) (x : Endpoi
     as_told (moved (grows a same_parts g)) = grown a same_parts g
 
     own_by : (z : BothStreamEffect begins_by (IsIsoAsk (both descs parts)) transacts_by parts one wire after parts_then other)
-        → Behind (known ++ bytes_of_both n z)
-    own_by z = subst (λ (ys : List ℕ). Behind (known ++ ys)) (sym (as_told z)) own
+        → StaysInTime z side timely still → Behind (known ++ bytes_of_both n z)
+    own_by z on_time = subst (λ (ys : List ℕ). Behind (known ++ ys)) (sym (as_told z)) (own on_time.before)
 
   goes_by : HostGoes (both descs parts) now one other n wire after Made
       → (z : BothStreamEffect begins_by (IsIsoAsk (both descs parts)) transacts_by parts one wire after parts_then other)
-      → Behind (known ++ bytes_of_both n z)
-  goes_by (makes_own m at all makes) z = own_by m at all makes z
-  goes_by (stays still unmade) z = still_by still unmade z
+      → StaysInTime z side timely still → Behind (known ++ bytes_of_both n z)
+  goes_by (makes_own m at all makes) z on_time = own_by m at all makes z on_time
+  goes_by (stays stays_so unmade) z on_time = still_by stays_so unmade z on_time
 
   pub goes_on_so : (z : BothStreamEffect begins_by (IsIsoAsk (both descs parts)) transacts_by parts one wire after parts_then other)
-      → Behind (known ++ bytes_of_both n z)
-  goes_on_so z = goes_by goes z
+      → StaysInTime z side timely still → Behind (known ++ bytes_of_both n z)
+  goes_on_so z on_time = goes_by goes z on_time
 
 pub event_keeps_in_behind : EventKeepsInBehind
-event_keeps_in_behind packets near n x i place known base member met d descs parts hand frame c wire after now later frame_later describing
-    runs effect asked alone iso unmet part_is part_now hub_after spares z k =
-    goes_on_so packets near n x i place known base member met d descs parts hand frame c wire after now later frame_later describing
-    runs effect asked alone iso unmet part_is part_now hub_after spares k z
+event_keeps_in_behind kind packets near n x i place timely still known base member met d descs parts hand frame c wire after now later
+    frame_later describing runs effect asked alone iso streams walked fresh part_is part_now hub_after spares z k on_time =
+    goes_on_so kind packets near n x i place timely still known base member met d descs parts hand frame c wire after now later frame_later
+    describing runs effect asked alone iso streams walked fresh part_is part_now hub_after spares k z on_time

@@ -276,11 +276,11 @@ module _ (kind : EpKind) (near : ℕ → Bool) (n : ℕ) (x : Endpoint) (i place
         by : (y : EpKind) → kind ≡ y → Made m → m.kind ≡ kind
         by Kinds.Bulk is (by_ring on kind_at_is never) =
             kind_at_is ∙ ap kind_at (ap (λ (y : Qh). y.dtc) queue_is ∙ dtc_off) ∙ sym is
-        by Kinds.Bulk is (by_frames on framed r one_copy) =
+        by Kinds.Bulk is (by_frames on framed r one_copy last_is) =
             absurd (subst (λ (y : EpKind). IsWalkedAs y member met n) is walked (ap met (sym at) ∙ on))
         by Kinds.Interrupt is (by_ring on kind_at_is never) =
             absurd (subst (λ (y : EpKind). IsWalkedAs y member met n) is walked (ap member (sym at) ∙ on))
-        by Kinds.Interrupt is (by_frames on framed r one_copy) = framed ∙ sym is
+        by Kinds.Interrupt is (by_frames on framed r one_copy last_is) = framed ∙ sym is
         by Kinds.Control is made_so = absurd (false≢true (ap has_stream (sym is) ∙ streams))
         by Kinds.Iso is made_so = absurd (false≢true (ap has_stream (sym is) ∙ streams))
 
@@ -290,7 +290,7 @@ module _ (kind : EpKind) (near : ℕ → Bool) (n : ℕ) (x : Endpoint) (i place
         by : Made m → FindsNoneTold (out_key kind q) i place wire
         by (by_ring on kind_at_is never) =
             absurd (subst (λ (y : EpKind). IsWalkedAs y member met n) is walked (ap member (sym at) ∙ on))
-        by (by_frames on framed r one_copy) =
+        by (by_frames on framed r one_copy last_is) =
             subst (λ (key : Key). FindsNoneTold key i place wire) (sym key_is)
             (fresh is r (ap (λ (e : Copy). e.at) one_copy ∙ at)
             (ap (λ (e : Copy). e.queue.token.split_state) one_copy ∙ ap (λ (y : Qh). y.token.split_state) queue_is ∙ state))

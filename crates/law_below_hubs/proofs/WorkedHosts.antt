@@ -98,6 +98,7 @@ read_starts = record {
   is_wait = completes;
   knows = refl;
   expects = refl;
+  in_time = λ one on late. cc;
   goes = λ on. refl;
   has = read.start_is_taken.has;
   right = read.start_is_taken.right;

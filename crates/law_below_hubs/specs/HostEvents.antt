@@ -6,16 +6,19 @@
 --     IsHostLike before now    an event that makes no transaction leaves it so
 --     IsApart hand n           no transaction of the queue head at n is to be written back
 --     told_key kind dir x      the key of an endpoint of this kind that a queue head tells
---     IsOutBehind, IsInBehind  the queue head at n is that of an OUT endpoint of this kind below the hub, or of a bulk IN endpoint, and
---                              host, hub and device stand as they must
+--     IsOutBehind, IsInBehind  the queue head at n is that of an OUT endpoint of this kind below the hub, or of an IN endpoint, and host,
+--                              hub and device stand as they must
 --     AsksElse dir part x y    a queue head of the endpoint y asks not x, or only in the other direction
 --     AsksAlone dir near parts n x     so does each other queue head that is met
 --     KeepsSent ..             no transaction of the queue head is made, and the packet that was sent last stays; or one is, which leaves
 --                              its structures
 --     IsWalkedAs kind ..       the frames meet a queue head of this kind, or the ring does
 --     StartsFindNoneTold ..    where the frames make a start-split of it, the hub's pipeline has nothing of the key that was told
+--     AsksInTime ..            where the frames make a transaction of it, its host is in time
+--     BeginsNoFrame z host     the event is no Begin at which a frame begins, or the host doesn't wait
+--     StaysInTime z host timely still     so a host that is in time still is
 --     EventKeepsOutBehind, EventKeepsInBehind     each event keeps it so
-use Rattle.std.specs.Prelude.{◌≡◌, ◌≢◌, ℕ, ◌⊎◌, ◌==◌, Bool, true, false, not, List, [], ◌++◌, Option, Some}
+use Rattle.std.specs.Prelude.{◌≡◌, ◌≢◌, ℕ, ◌%◌, ◌⊎◌, ◌==◌, Bool, true, false, not, List, [], ◌++◌, Option, Some}
 use Rattle.std.specs.Prelude.{if◌then◌else◌}
 use Rattle.usb_base.specs.declared.packets.Ask.{Ask}
 use Rattle.usb_base.specs.declared.packets.Dir.{Dir}
@@ -31,6 +34,7 @@ use Rattle.drv_table.specs.DriverContent.{DriverContent}
 use Rattle.toggle_error.specs.declared.host.HostSide.{HostSide}
 use Rattle.hc_copy.specs.Planning.{host_in}
 use Rattle.hc_core.specs.Controller.{Content}
+use Rattle.hc_interrupt.specs.Turns.{is_last_of}
 use Rattle.periodic_walk.specs.Walk.{Walk}
 use Rattle.claims_base.specs.Controller.{Base}
 use Rattle.claims_report.specs.Streams.{has_stream}
@@ -45,13 +49,13 @@ use Rattle.law_frames.specs.FrameEffects.{MakesOfQueue}
 use Rattle.law_frames.specs.FrameHand.{FrameHand}
 use Rattle.law_frames.specs.FrameStreams.{IsIsoAsk}
 use Rattle.law_controller.specs.frame_control.Both.{RunsBoth, BothEffect}
-use Rattle.law_controller.specs.frame_control.Joined.{joined, BothStreamEffect}
+use Rattle.law_controller.specs.frame_control.Joined.{joined, BothStreamEffect, begun, moved}
 use Rattle.law_devices.specs.scripted_requests.Controls.{transacts_by, begins_by}
 use Rattle.law_descriptors.specs.Both.{both, parts_now}
 use Rattle.law_descriptors.specs.PartLaws.{IsDescribing}
 use Rattle.law_descriptors.specs.queue_events.Streams.{bytes_of_both}
 use Rattle.law_descriptors.specs.queue_events.Pipes.{AskedAreNear}
-use Rattle.law_below_hubs.specs.HostIns.{InSide, SparesKey}
+use Rattle.law_below_hubs.specs.HostIns.{InSide, IsInTime, SparesKey}
 use Rattle.law_below_hubs.specs.HostOuts.{FindsNoneTold, OutHost, IsOfOther}
 use Rattle.law_below_hubs.specs.Splits.{IsAtHub}
 
@@ -98,8 +102,8 @@ pub record IsOutBehind (kind : EpKind) (w : Wired) (i place : ℕ) (known : List
   pub host : OutHost kind (parts n) hand n queue i place w (hand_host hand n queue).toggle (hand_host hand n queue).waiting known
 
 -- where the host hasn't halted, both ends agree in the packets
-pub record IsInBehind (packets : List (List ℕ)) (w : Wired) (i place : ℕ) (known : List ℕ) (parts : StructureSets) (hand : Hand) (n : ℕ)
-    (x : Endpoint) : Type 0 where
+pub record IsInBehind (kind : EpKind) (packets : List (List ℕ)) (w : Wired) (i place : ℕ) (timely : Bool) (known : List ℕ)
+    (parts : StructureSets) (hand : Hand) (n : ℕ) (x : Endpoint) : Type 0 where
   pub queue : Qh
   pub head : parts n n ≡ Some (QueueHead queue)
   pub is : x ≡ endpoint_of queue
@@ -109,8 +113,8 @@ pub record IsInBehind (packets : List (List ℕ)) (w : Wired) (i place : ℕ) (k
   pub first : StartsFirst (parts n)
   pub rests : RestsToStart (hand_host hand n queue)
   pub hub : IsAtHub w.bus.hubs x.hub x.port i place
-  pub side : InSide packets (told_key Kinds.Bulk Directions.In x) i place w (hand_host hand n queue).toggle (hand_host hand n queue).waiting
-      (not (hand_host hand n queue).halted) known
+  pub side : InSide packets (told_key kind Directions.In x) i place w (hand_host hand n queue).toggle (hand_host hand n queue).waiting
+      (not (hand_host hand n queue).halted) timely known
 
 -- ---- who asks
 
@@ -163,18 +167,40 @@ abbrev pub SparesKeyNow : Key → ℕ → ℕ → Wired → Wired → Type 0
 SparesKeyNow k i place wire after = (ask : Ask) (out : List ℕ) (reply : Reply) → transacts_by wire ask out reply after
     → SparesKey k i place wire ask after
 
+-- where the frames make a transaction of it, its host is in time
+abbrev pub AsksInTime : EpKind → Endpoint → ℕ → ℕ → ℕ → Bool → StructureSets → Walk → FrameHand → Wired → Wired → FrameHand → Type 0
+AsksInTime kind x i place n timely all walk frame wire after later = kind ≡ Kinds.Interrupt
+    → (r : MakesOfQueue transacts_by all walk frame wire after later) → r.copy.at ≡ n
+    → IsInTime (told_key kind Directions.In x) i place wire r.copy.queue.token.split_state (is_last_of walk.index r.copy.queue) timely
+
+-- where a frame begins the host doesn't wait
+abbrev pub BeginsNoFrame : {Beside : Ask → Type 0} {parts : StructureSets} {hand : Hand} {wire after : Wired} {now : StructureSets}
+    {later : Hand} → BothStreamEffect begins_by Beside transacts_by parts hand wire after now later → HostSide → Type 0
+BeginsNoFrame (begun index allowed asked told) host = index % 8 ≡ 0 → host.waiting ≡ false
+BeginsNoFrame (moved z) host = Unit {0}
+
+-- it is in time still
+pub record StaysInTime {Beside : Ask → Type 0} {parts : StructureSets} {hand : Hand} {wire after : Wired} {now : StructureSets}
+    {later : Hand} (z : BothStreamEffect begins_by Beside transacts_by parts hand wire after now later) (host : HostSide)
+    (timely still : Bool) : Type 0 where
+  pub before : still ≡ true → timely ≡ true
+  pub begun : still ≡ true → BeginsNoFrame z host
+
 abbrev pub EventKeepsInBehind : Type 0
-EventKeepsInBehind = (packets : List (List ℕ)) (near : ℕ → Bool) (n : ℕ) (x : Endpoint) (i place : ℕ) (known : List ℕ) (base : Base)
-    (member : ℕ → Bool)
+EventKeepsInBehind = (kind : EpKind) (packets : List (List ℕ)) (near : ℕ → Bool) (n : ℕ) (x : Endpoint) (i place : ℕ)
+    (timely still : Bool) (known : List ℕ) (base : Base) (member : ℕ → Bool)
     (met : ℕ → Option Kind) (d : DriverContent) (descs parts : StructureSets) (hand : Hand) (frame : FrameHand) (c : Content)
     (wire after : Wired) (now : StructureSets) (later : Hand) (frame_later : FrameHand) → IsDescribing d descs parts
     → RunsBoth base member met (both descs parts) hand frame c
     → BothEffect begins_by transacts_by (both descs parts) c.control hand frame wire after now later frame_later
     → AskedAreNear near parts (joined hand frame) → AsksAlone Directions.In near parts n x
-    → ((ask : Ask) → IsIsoAsk (both descs parts) ask → IsOfOther (told_key Kinds.Bulk Directions.In x) ask)
-    → (met n ≡ Some AQueue → ⊥) → IsQueuePart n (parts n) → IsQueuePart n (parts_now descs parts now n)
-    → IsAtHub after.bus.hubs x.hub x.port i place → SparesKeyNow (told_key Kinds.Bulk Directions.In x) i place wire after
+    → ((ask : Ask) → IsIsoAsk (both descs parts) ask → IsOfOther (told_key kind Directions.In x) ask)
+    → has_stream kind ≡ true → IsWalkedAs kind member met n
+    → AsksInTime kind x i place n timely (both descs parts) c.control.frame frame wire after frame_later
+    → IsQueuePart n (parts n) → IsQueuePart n (parts_now descs parts now n)
+    → IsAtHub after.bus.hubs x.hub x.port i place → SparesKeyNow (told_key kind Directions.In x) i place wire after
     → (z : BothStreamEffect begins_by (IsIsoAsk (both descs parts)) transacts_by parts (joined hand frame) wire after
     (parts_now descs parts now) (joined later frame_later))
-    → IsInBehind packets wire i place known parts (joined hand frame) n x
-    → IsInBehind packets after i place (known ++ bytes_of_both n z) (parts_now descs parts now) (joined later frame_later) n x
+    → (k : IsInBehind kind packets wire i place timely known parts (joined hand frame) n x)
+    → StaysInTime z (hand_host (joined hand frame) n k.queue) timely still
+    → IsInBehind kind packets after i place still (known ++ bytes_of_both n z) (parts_now descs parts now) (joined later frame_later) n x

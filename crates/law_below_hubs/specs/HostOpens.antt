@@ -27,7 +27,7 @@ use Rattle.law_devices.specs.scripted_requests.Controls.{transacts_by, begins_by
 use Rattle.law_descriptors.specs.Both.{both}
 use Rattle.law_descriptors.specs.queue_events.Pipes.{AskedAreNear}
 use Rattle.law_translated.specs.InPipes.{in_opening}
-use Rattle.law_translated.specs.Lift.{Buffered, Empty}
+use Rattle.law_translated.specs.Lift.{Empty}
 use Rattle.law_translated.specs.OutPipes.{out_opening}
 use Rattle.law_below_hubs.specs.HostEvents.{hand_host, StartsFirst, told_key, IsOutBehind, IsInBehind, AsksElse, SparesKeyNow}
 use Rattle.law_below_hubs.specs.HostIns.{InSide}
@@ -45,9 +45,10 @@ OutOpens = (k : Key) (i place : ℕ) (w : Wired) → HubsHave (its_way k.kind) k
     → taker_at w k.addr k.ep ≡ Some (taker_of_line out_opening) → OutSide k i place w false false [] None
 
 abbrev pub InOpens : Type 0
-InOpens = (packets : List (List ℕ)) (k : Key) (i place : ℕ) (w : Wired) (going : Bool) → HubsHave Buffered k i place w.bus.hubs Empty
+InOpens = (packets : List (List ℕ)) (k : Key) (i place : ℕ) (w : Wired) (going timely : Bool)
+    → HubsHave (its_way k.kind) k i place w.bus.hubs Empty
     → AreRightHubs (IsOfKind k) w.bus.hubs → sender_at w k.addr k.ep ≡ Some (sender_of_line (in_opening packets))
-    → InSide packets k i place w false false going []
+    → InSide packets k i place w false false going timely []
 
 -- ---- a new queue head
 
@@ -63,11 +64,12 @@ HeadOpensOut = (kind : EpKind) (w : Wired) (i place : ℕ) (parts : StructureSet
     → (b : IsOutBehind kind w i place [] parts hand n x) × (b.host.next ≡ None)
 
 abbrev pub HeadOpensIn : Type 0
-HeadOpensIn = (packets : List (List ℕ)) (w : Wired) (i place : ℕ) (parts : StructureSets) (hand : Hand) (n : ℕ) (x : Endpoint) (q : Qh)
+HeadOpensIn = (kind : EpKind) (packets : List (List ℕ)) (w : Wired) (i place : ℕ) (timely : Bool) (parts : StructureSets) (hand : Hand)
+    (n : ℕ) (x : Endpoint) (q : Qh)
     → parts n n ≡ Some (QueueHead q) → x ≡ endpoint_of q → (x.speed == 2) ≡ false → x.dtc ≡ false → IsIn (parts n) → StartsFirst (parts n)
     → IsFirst (hand_host hand n q) → IsAtHub w.bus.hubs x.hub x.port i place
-    → ((going : Bool) → InSide packets (told_key Kinds.Bulk Directions.In x) i place w false false going [])
-    → IsInBehind packets w i place [] parts hand n x
+    → ((going : Bool) → InSide packets (told_key kind Directions.In x) i place w false false going timely [])
+    → IsInBehind kind packets w i place timely [] parts hand n x
 
 -- ---- where none asks it
 
@@ -84,11 +86,11 @@ UnaskedLeavesOut = (kind : EpKind) (near : ℕ → Bool) (x : Endpoint) (i place
     → OutSide (told_key kind Directions.Out x) i place after h waiting known next
 
 abbrev pub UnaskedLeavesIn : Type 0
-UnaskedLeavesIn = (packets : List (List ℕ)) (near : ℕ → Bool) (x : Endpoint) (i place : ℕ) (descs parts : StructureSets)
-    (hand : Hand) (wire after : Wired) (now : StructureSets) (later : Hand) (h waiting going : Bool) (known : List ℕ)
+UnaskedLeavesIn = (kind : EpKind) (packets : List (List ℕ)) (near : ℕ → Bool) (x : Endpoint) (i place : ℕ) (descs parts : StructureSets)
+    (hand : Hand) (wire after : Wired) (now : StructureSets) (later : Hand) (h going timely : Bool) (known : List ℕ)
     → AskedAreNear near parts hand → AsksNone Directions.In near parts x
-    → ((ask : Ask) → IsIsoAsk (both descs parts) ask → IsOfOther (told_key Kinds.Bulk Directions.In x) ask)
-    → SparesKeyNow (told_key Kinds.Bulk Directions.In x) i place wire after
+    → ((ask : Ask) → IsIsoAsk (both descs parts) ask → IsOfOther (told_key kind Directions.In x) ask) → has_stream kind ≡ true
+    → SparesKeyNow (told_key kind Directions.In x) i place wire after
     → BothStreamEffect begins_by (IsIsoAsk (both descs parts)) transacts_by parts hand wire after now later
-    → InSide packets (told_key Kinds.Bulk Directions.In x) i place wire h waiting going known
-    → InSide packets (told_key Kinds.Bulk Directions.In x) i place after h waiting going known
+    → InSide packets (told_key kind Directions.In x) i place wire h false going timely known
+    → InSide packets (told_key kind Directions.In x) i place after h false going timely known

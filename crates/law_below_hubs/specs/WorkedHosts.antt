@@ -46,10 +46,10 @@ UnsentBreaks = OutSide key 0 0 started false true [] None → ⊥
 -- ---- IN
 
 abbrev pub ReadStarts : Type 0
-ReadStarts = InSide (inward.three_bytes ∷ []) inward.key 0 0 inward.started false true true []
+ReadStarts = InSide (inward.three_bytes ∷ []) inward.key 0 0 inward.started false true true true []
 
 abbrev pub NoStreamBreaks : Type 0
-NoStreamBreaks = InSide [] inward.key 0 0 inward.started false true true [] → ⊥
+NoStreamBreaks = InSide [] inward.key 0 0 inward.started false true true true [] → ⊥
 
 -- ---- a pipeline
 
