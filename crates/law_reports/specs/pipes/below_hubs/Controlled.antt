@@ -4,14 +4,14 @@
 --     AskTheirWays s d         so it is of each endpoint that is met
 --     IsWatched d kind way e y y is an endpoint of this kind that is met, whose number no control endpoint of its device has
 --     ControllerKeepsWays, ControllerKeepsOutBelow, ControllerKeepsInBelow
---                              so does each event; for an IN no request may clear the hub's buffers
+--                              so does each event; for an IN no request may clear the hub's buffers,
+--                              and the host of an interrupt endpoint must be in time
 --     IsUnasked d way x        no endpoint that is met, and no isochronous one, has the name of x: it wasn't opened yet, or has left
 --     ControllerLeavesOut, ControllerLeavesIn
 --                              what hub and device have of it stays as it must
-use Rattle.std.specs.Prelude.{◌≡◌, ℕ, ◌*◌, Bool, true, List, ◌++◌, slice_get, Option, Some}
+use Rattle.std.specs.Prelude.{◌≡◌, ℕ, ◌*◌, Bool, true, false, List, ◌++◌, slice_get, Option, Some}
 use Rattle.usb_base.specs.declared.packets.Dir.TheVariants as Directions
 use Rattle.usb_base.specs.declared.packets.EpKind.{EpKind}
-use Rattle.usb_base.specs.declared.packets.EpKind.TheVariants as kinds
 use Rattle.usb_base.specs.declared.packets.Way.{Way}
 use Rattle.usb_base.specs.declared.packets.Way.TheVariants as ways
 use Rattle.bus_wire.specs.Bus.{Fixed}
@@ -27,7 +27,8 @@ use Rattle.law_ring.specs.Told.{Endpoint as Told}
 use Rattle.law_driver_ring.specs.fed_queues.Places.{IsMet}
 use Rattle.law_descriptors.specs.Both.{both}
 use Rattle.law_descriptors.specs.queue_events.Streams.{bytes_of_both}
-use Rattle.law_below_hubs.specs.HostEvents.{told_key, IsOutBehind, IsInBehind, StartsFindNoneTold, KeepsSent, SparesKeyNow}
+use Rattle.law_below_hubs.specs.HostEvents.{hand_host, told_key, IsOutBehind, IsInBehind, StartsFindNoneTold, KeepsSent}
+use Rattle.law_below_hubs.specs.HostEvents.{AsksInTime, StaysInTime, SparesKeyNow}
 use Rattle.law_below_hubs.specs.HostIns.{InSide}
 use Rattle.law_below_hubs.specs.HostOuts.{OutSide}
 use Rattle.law_world.specs.steps.Streaming.{wired}
@@ -76,10 +77,14 @@ ControllerKeepsOutBelow = (fixed : Fixed) (x : Sides) (s : Standing) (m : Lines)
 abbrev pub ControllerKeepsInBelow : Type 0
 ControllerKeepsInBelow = (fixed : Fixed) (x : Sides) (s : Standing) (m : Lines) (h : Heads) (w : World) → IsPiped fixed x s m h w
     → AskTheirWays s w.driver → (c : IsMixedControlled fixed s w) → (z : EventOf fixed s w c.event) → (e : ℕ) (y : Endpoint)
-    → IsWatched w.driver kinds.Bulk ways.In e y → (packets : List (List ℕ)) (i place : ℕ) (known : List ℕ)
-    → SparesKeyNow (told_key kinds.Bulk Directions.In (asked_as y.desc)) i place (wired fixed w) (wired fixed (controller_next fixed w))
-    → IsInBehind packets (wired fixed w) i place known s.parts (in_hand s) (32 * y.queue) (asked_as y.desc)
-    → IsInBehind packets (wired fixed (controller_next fixed w)) i place (known ++ bytes_of_both (32 * y.queue) z)
+    → (kind : EpKind) → has_stream kind ≡ true → IsWatched w.driver kind ways.In e y → (packets : List (List ℕ)) (i place : ℕ)
+    (timely still : Bool) (known : List ℕ)
+    → AsksInTime kind (asked_as y.desc) i place (32 * y.queue) timely (both s.descs s.parts) w.control.frame s.frame (wired fixed w)
+    (wired fixed (controller_next fixed w)) c.event.frame_later
+    → SparesKeyNow (told_key kind Directions.In (asked_as y.desc)) i place (wired fixed w) (wired fixed (controller_next fixed w))
+    → (b : IsInBehind kind packets (wired fixed w) i place timely known s.parts (in_hand s) (32 * y.queue) (asked_as y.desc))
+    → StaysInTime z (hand_host (in_hand s) (32 * y.queue) b.queue) timely still
+    → IsInBehind kind packets (wired fixed (controller_next fixed w)) i place still (known ++ bytes_of_both (32 * y.queue) z)
     (standing_then s w c.event).parts (in_hand (standing_then s w c.event)) (32 * y.queue) (asked_as y.desc)
 
 pub record IsUnasked (d : DriverContent) (way : Way) (x : Told) : Type 0 where
@@ -98,10 +103,12 @@ ControllerLeavesOut = (fixed : Fixed) (x : Sides) (s : Standing) (m : Lines) (h 
     → OutSide (told_key kind Directions.Out t) i place (wired fixed w) toggle waiting known next
     → OutSide (told_key kind Directions.Out t) i place (wired fixed (controller_next fixed w)) toggle waiting known next
 
+-- its host doesn't wait
 abbrev pub ControllerLeavesIn : Type 0
 ControllerLeavesIn = (fixed : Fixed) (x : Sides) (s : Standing) (m : Lines) (h : Heads) (w : World) → IsPiped fixed x s m h w
     → AskTheirWays s w.driver → (c : IsMixedControlled fixed s w) → EventOf fixed s w c.event → (t : Told)
-    → IsUnasked w.driver ways.In t → (packets : List (List ℕ)) (i place : ℕ) (toggle waiting going : Bool) (known : List ℕ)
-    → SparesKeyNow (told_key kinds.Bulk Directions.In t) i place (wired fixed w) (wired fixed (controller_next fixed w))
-    → InSide packets (told_key kinds.Bulk Directions.In t) i place (wired fixed w) toggle waiting going known
-    → InSide packets (told_key kinds.Bulk Directions.In t) i place (wired fixed (controller_next fixed w)) toggle waiting going known
+    → IsUnasked w.driver ways.In t → (kind : EpKind) → has_stream kind ≡ true → (packets : List (List ℕ)) (i place : ℕ)
+    (toggle going timely : Bool) (known : List ℕ)
+    → SparesKeyNow (told_key kind Directions.In t) i place (wired fixed w) (wired fixed (controller_next fixed w))
+    → InSide packets (told_key kind Directions.In t) i place (wired fixed w) toggle false going timely known
+    → InSide packets (told_key kind Directions.In t) i place (wired fixed (controller_next fixed w)) toggle false going timely known

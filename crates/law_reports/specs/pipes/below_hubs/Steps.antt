@@ -32,8 +32,8 @@ StepKeepsOutBehind = (kind : EpKind) (sends takes : ℕ → ℕ → Bool) (ins o
     → (b : IsOutBehind kind wire i place known t.parts (in_hand t) n x) × (b.host.next ≡ k.host.next)
 
 abbrev pub StepKeepsInBehind : Type 0
-StepKeepsInBehind = (packets : List (List ℕ)) (sends takes : ℕ → ℕ → Bool) (ins outs : ℕ → Bool) (ends : ℕ → Told) (s t : Standing)
-    (w new : World) (wire : Wired) (i place : ℕ) (known : List ℕ) (n : ℕ) (x : Told) → IsMixedAt s w → QueueStep s w new t
-    → AreByWay (queued w.driver) sends takes ins outs ends → PublishesStart (queued w.driver) → ins n ≡ true → s.near n ≡ true
-    → t.near n ≡ true → IsInBehind packets wire i place known s.parts (in_hand s) n x
-    → IsInBehind packets wire i place known t.parts (in_hand t) n x
+StepKeepsInBehind = (kind : EpKind) (packets : List (List ℕ)) (sends takes : ℕ → ℕ → Bool) (ins outs : ℕ → Bool) (ends : ℕ → Told)
+    (s t : Standing) (w new : World) (wire : Wired) (i place : ℕ) (timely : Bool) (known : List ℕ) (n : ℕ) (x : Told) → IsMixedAt s w
+    → QueueStep s w new t → AreByWay (queued w.driver) sends takes ins outs ends → PublishesStart (queued w.driver) → ins n ≡ true
+    → s.near n ≡ true → t.near n ≡ true → IsInBehind kind packets wire i place timely known s.parts (in_hand s) n x
+    → IsInBehind kind packets wire i place timely known t.parts (in_hand t) n x

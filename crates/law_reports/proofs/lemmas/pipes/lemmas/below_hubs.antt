@@ -7,6 +7,7 @@ pub mod Going
 pub mod Starting
 pub mod FoundNone
 pub mod BehindControlled
+pub mod InTime
 pub mod InsSteps
 pub mod BehindDriven
 pub mod BehindCommanded

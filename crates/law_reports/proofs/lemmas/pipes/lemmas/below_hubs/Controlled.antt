@@ -1,7 +1,6 @@
 -- Each event of the controller leaves a pipe below a hub as it must stand, in a world with endpoints of every kind.
 use Rattle.std.proofs.Common.{◌≡◌, ℕ, ◌*◌, slice_get, Some, refl, subst}
 use Rattle.usb_base.specs.declared.packets.Dir.TheVariants as Directions
-use Rattle.usb_base.specs.declared.packets.EpKind.TheVariants as kinds
 use Rattle.usb_base.specs.declared.packets.Way.{Way}
 use Rattle.usb_base.specs.declared.packets.Way.TheVariants as ways
 use Rattle.claims_base.specs.Controller.{opening_base}
@@ -71,20 +70,20 @@ controller_keeps_out_below fixed x s m h w k ways_are c z e y kind streams one i
     z b.hub) z b
 
 pub controller_keeps_in_below : ControllerKeepsInBelow
-controller_keeps_in_below fixed x s m h w k ways_are c z e y one packets i place known spares b =
+controller_keeps_in_below fixed x s m h w k ways_are c z e y kind streams one packets i place timely still known fresh spares b on_time =
     let f = k.mixed.now.framed in
     let describing : IsDescribing w.driver s.descs s.parts =
     record { owners = f.place.sound.owners; driven = f.driven; described = f.described } in
-    event_keeps_in_behind packets s.near (32 * y.queue) (asked_as y.desc) i place known opening_base s.member (met w.driver s.recent)
-    w.driver s.descs s.parts s.hand s.frame (controller_parts w) (wired fixed w) (wired fixed (controller_next fixed w)) c.event.now
-    c.event.later c.event.frame_later describing f.runs c.event.effect (asked_is_near s w k.mixed)
-    (asks_alone fixed x s m h w k ways_are Directions.In e y kinds.Bulk refl one)
-    (iso_aside fixed x s m h w k ways_are Directions.In e y kinds.Bulk refl one)
-    (walked_as fixed x s m h w k ways_are Directions.In e y kinds.Bulk refl one) (sound_at s w k.mixed e y one.here one.met)
+    event_keeps_in_behind kind packets s.near (32 * y.queue) (asked_as y.desc) i place timely still known opening_base s.member
+    (met w.driver s.recent) w.driver s.descs s.parts s.hand s.frame (controller_parts w) (wired fixed w)
+    (wired fixed (controller_next fixed w)) c.event.now c.event.later c.event.frame_later describing f.runs c.event.effect
+    (asked_is_near s w k.mixed) (asks_alone fixed x s m h w k ways_are Directions.In e y kind streams one)
+    (iso_aside fixed x s m h w k ways_are Directions.In e y kind streams one) streams
+    (walked_as fixed x s m h w k ways_are Directions.In e y kind streams one) fresh (sound_at s w k.mixed e y one.here one.met)
     (sound_at (standing_then s w c.event) (controller_next fixed w) c.mixed e y one.here one.met)
     (event_keeps_hub s.parts (joined s.hand s.frame) (wired fixed w) (wired fixed (controller_next fixed w))
     (parts_now s.descs s.parts c.event.now) (joined c.event.later c.event.frame_later) (asked_as y.desc).hub (asked_as y.desc).port i place
-    z b.hub) spares z b
+    z b.hub) spares z b on_time
 
 pub controller_leaves_out : ControllerLeavesOut
 controller_leaves_out fixed x s m h w k ways_are c z t u kind streams i place h_now waiting known next side =
@@ -94,8 +93,8 @@ controller_leaves_out fixed x s m h w k ways_are c z t u kind streams i place h_
     (iso_beside fixed x s m h w k ways_are Directions.Out t u) streams z side
 
 pub controller_leaves_in : ControllerLeavesIn
-controller_leaves_in fixed x s m h w k ways_are c z t u packets i place h_now waiting going known spares side =
-    unasked_leaves_in packets s.near t i place s.descs s.parts (in_hand s) (wired fixed w) (wired fixed (controller_next fixed w))
-    (parts_now s.descs s.parts c.event.now) (joined c.event.later c.event.frame_later) h_now waiting going known
+controller_leaves_in fixed x s m h w k ways_are c z t u kind streams packets i place h_now going timely known spares side =
+    unasked_leaves_in kind packets s.near t i place s.descs s.parts (in_hand s) (wired fixed w) (wired fixed (controller_next fixed w))
+    (parts_now s.descs s.parts c.event.now) (joined c.event.later c.event.frame_later) h_now going timely known
     (asked_is_near s w k.mixed) (asks_none fixed x s m h w k ways_are Directions.In t u)
-    (iso_beside fixed x s m h w k ways_are Directions.In t u) spares z side
+    (iso_beside fixed x s m h w k ways_are Directions.In t u) streams spares z side

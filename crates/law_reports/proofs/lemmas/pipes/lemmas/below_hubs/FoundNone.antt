@@ -38,7 +38,7 @@ use Rattle.bus_world.specs.World.{World, controller_parts, controller_next}
 use Rattle.law_microframes.specs.translators.Fresh.{IsStarting}
 use Rattle.law_reports.specs.pipes.below_hubs.BehindLaws.{WorldFindsNoneTold}
 
-periodic_by : (o : MicroframePart) (walks : Bool) (f : FrameHand) (c : Copy) (made : ℕ) → f ≡ OfQueue c made
+pub periodic_by : (o : MicroframePart) (walks : Bool) (f : FrameHand) (c : Copy) (made : ℕ) → f ≡ OfQueue c made
     → ((o ≢ Periodic) ⊎ (walks ≡ false) → f ≡ Nothing) → o ≡ Periodic
 periodic_by Periodic walks f c made is outside = refl
 periodic_by Asynchronous walks f c made is outside =

@@ -1,5 +1,5 @@
--- Each command, accepted or refused, leaves a bulk IN endpoint below a hub as it must stand.
-use Rattle.std.proofs.Common.{◌≡◌, ℕ, ◌*◌, true, List, ◌++◌, length, slice_get, Option, Some, None, Result, Ok, Err, ap, refl, sym, subst}
+-- Each command, accepted or refused, leaves a bulk or interrupt IN endpoint below a hub as it must stand.
+use Rattle.std.proofs.Common.{◌≡◌, ℕ, ◌*◌, Bool, true, List, ◌++◌, length, slice_get, Option, Some, None, Result, Ok, Err, ap, refl, sym, subst}
 use Rattle.std.proofs.Common.{◌∙◌, ⊎_elim, inl}
 use Rattle.std.specs.Prelude.{◌⊎◌}
 use Rattle.std.specs.List.{concat}
@@ -43,13 +43,13 @@ use Rattle.law_reports.proofs.lemmas.pipes.FollowedCommands.{was_by, refused_lef
 use Rattle.law_reports.proofs.lemmas.pipes.Names.{met_near}
 use Rattle.law_reports.proofs.lemmas.pipes.lemmas.below_hubs.InwardDriven.{in_begun}
 
-module _ (fixed : Fixed) (x : Sides) (o : Spots) (v : Inlet) (s : Standing) (m : Lines) (h : Heads) (puts : ℕ → List ℕ) (w : World)
-    (k : IsPiped fixed x s m h w) (pays : Pays fixed x s m puts w) (b : IsBehind fixed o s m puts w) (i : IsInward fixed v s m w) where
+module _ (fixed : Fixed) (x : Sides) (o : Spots) (v : Inlet) (timely : ℕ → Bool) (s : Standing) (m : Lines) (h : Heads) (puts : ℕ → List ℕ) (w : World)
+    (k : IsPiped fixed x s m h w) (pays : Pays fixed x s m puts w) (b : IsBehind fixed o s m puts w) (i : IsInward fixed v timely s m w) where
   abbrev Left : ℕ → ℕ → List ℕ → Type 0
   Left addr ep = Begins v
 
   abbrev Stands : ℕ → EpDesc → Type 0
-  Stands q c = IsInBehind v.packets (wired fixed w) v.hub v.place (concat (m.acc (32 * q))) s.parts (in_hand s) (32 * q) (asked_as c)
+  Stands q c = IsInBehind v.desc.kind v.packets (wired fixed w) v.hub v.place (timely (32 * q)) (concat (m.acc (32 * q))) s.parts (in_hand s) (32 * q) (asked_as c)
 
   -- the driver's content and memory change, and the same queue heads are met
   module _ (f : DriverContent) (mem : Mem) (new : IsPiped fixed x s m h (record w { driver = f; memory = mem }))
@@ -69,7 +69,7 @@ module _ (fixed : Fixed) (x : Sides) (o : Spots) (v : Inlet) (s : Standing) (m :
 
     pub with_driver : AreInlets v f → AreFresh f ways.In (is_inlet v) (λ addr ep. Unmoved v (wired fixed w))
         → AreLeft f m.acc ways.In (is_inlet v) (λ addr ep. Begins v)
-        → IsInward fixed v s m (record w { driver = f; memory = mem })
+        → IsInward fixed v timely s m (record w { driver = f; memory = mem })
     with_driver inlets fresh left = record {
       claims = i.claims;
       inlets = inlets;
@@ -86,13 +86,13 @@ module _ (fixed : Fixed) (x : Sides) (o : Spots) (v : Inlet) (s : Standing) (m :
 
   refused_inward : (line : ℕ) (cmd : Cmd) (why : OfferError) → offered w.driver w.memory cmd ≡ Err why
       → IsPiped fixed x s m h (commanded_by w line (name_in cmd) (Err why))
-      → IsInward fixed v s m (commanded_by w line (name_in cmd) (Err why))
+      → IsInward fixed v timely s m (commanded_by w line (name_in cmd) (Err why))
   refused_inward line cmd why is new =
       let f : DriverContent = refused_line w.driver line (name_in cmd) why in
       with_driver f w.memory new (λ e z here which. record { endpoint = z; here = here; comes = itself z }) i.inlets
       (fresh_carried w.driver f (λ e y here. record { endpoint = y; here = here; comes = itself y }) (λ q opening. opening) ways.In
       (is_inlet v) (λ addr ep. Unmoved v (wired fixed w)) i.fresh)
-      (refused_left fixed x s m h w k line cmd why ways.In (is_inlet v) Left (in_begun fixed x o v s m h puts w k pays b i) i.left)
+      (refused_left fixed x s m h w k line cmd why ways.In (is_inlet v) Left (in_begun fixed x o v timely s m h puts w k pays b i) i.left)
 
   -- ---- accepted
 
@@ -124,20 +124,20 @@ module _ (fixed : Fixed) (x : Sides) (o : Spots) (v : Inlet) (s : Standing) (m :
         (λ e t here. subst (λ (xs : List Endpoint). IsNowIn xs e t) (sym added) (now_anew w.driver.endpoints j y u at comes e t here))
         (λ q opening. absurd (never q opening)) ways.In (is_inlet v) (λ addr ep. Unmoved v (wired fixed w)) i.fresh
 
-    accepted_inward : IsInward fixed v s m (commanded_by w line (name_in cmd) (Ok f))
+    accepted_inward : IsInward fixed v timely s m (commanded_by w line (name_in cmd) (Ok f))
     accepted_inward =
         with_driver f.driver f.memory new (was_by fixed x s m h w k f.driver cmd ends) (inlets_by cmd one ends) (fresh_by ends)
         (accepted_left fixed x s m h w k f.driver cmd told_idle ends ways.In (is_inlet v) Left
-        (in_begun fixed x o v s m h puts w k pays b i) i.left)
+        (in_begun fixed x o v timely s m h puts w k pays b i) i.left)
 
   -- ---- any command
 
   module _ (line : ℕ) (cmd : Cmd) (fits : OpensMixed cmd) (declares : OpensDeclared x cmd) (one : OpensInlet v cmd)
       (room : IsOffered w.driver.room cmd) where
     by_offer : (r : Result Offered OfferError) → offered w.driver w.memory cmd ≡ r
-        → IsPiped fixed x s m h (commanded_by w line (name_in cmd) r) → IsInward fixed v s m (commanded_by w line (name_in cmd) r)
+        → IsPiped fixed x s m h (commanded_by w line (name_in cmd) r) → IsInward fixed v timely s m (commanded_by w line (name_in cmd) r)
     by_offer (Err why) is new = refused_inward line cmd why is new
     by_offer (Ok f) is new = accepted_inward line cmd f is declares one new
 
-    pub commanded_inward : IsInward fixed v s m (commanded w line cmd)
+    pub commanded_inward : IsInward fixed v timely s m (commanded w line cmd)
     commanded_inward = by_offer (offered w.driver w.memory cmd) refl (commanded_piped fixed x s m h w k line cmd fits declares room)

@@ -1,5 +1,5 @@
--- Each event of the driver leaves a bulk IN endpoint below a hub as it must stand.
-use Rattle.std.proofs.Common.{◌≡◌, ◌≢◌, ℕ, ◌*◌, ◌==◌, true, false, List, [], slice_get, Some, ap, refl, sym}
+-- Each event of the driver leaves a bulk or interrupt IN endpoint below a hub as it must stand.
+use Rattle.std.proofs.Common.{◌≡◌, Bool, ◌≢◌, ℕ, ◌*◌, ◌==◌, true, false, List, [], slice_get, Some, ap, refl, sym}
 use Rattle.std.proofs.Common.{subst, ◌∙◌, ⊎_elim}
 use Rattle.std.specs.List.{concat}
 use Rattle.std.proofs.lemmas.Bool.{cases_eq, cases_Bool, eq-eqb}
@@ -8,7 +8,6 @@ use Rattle.law_common.proofs.Booleans.{not_high}
 use Rattle.law_common.proofs.Numbers.{same_blocks}
 use Rattle.std.proofs.lemmas.Bool.{and_parts}
 use Rattle.std.specs.Prelude.{◌&&◌, not}
-use Rattle.usb_base.specs.declared.packets.EpKind.TheVariants as kinds
 use Rattle.usb_base.specs.declared.endpoints.EpDesc.{EpDesc}
 use Rattle.usb_base.specs.declared.packets.Dir.TheVariants as Directions
 use Rattle.usb_base.specs.declared.packets.Way.TheVariants as ways
@@ -16,7 +15,6 @@ use Rattle.bus_wire.specs.Bus.{Fixed}
 use Rattle.claims_base.specs.Prefix.{IsPrefix}
 use Rattle.claims_driver.specs.Scripts.{comes_in}
 use Rattle.claims_report.specs.Streams.{has_stream}
-use Rattle.claims_world.specs.BelowStreams.{is_bulk, is_bulk_in_below}
 use Rattle.drv_table.specs.declared.content.Command.TheVariants as unfinished
 use Rattle.drv_table.specs.declared.content.Endpoint.{Endpoint}
 use Rattle.drv_table.specs.Words.{is_high}
@@ -45,7 +43,7 @@ use Rattle.law_reports.specs.pipes.Declared.{Sides}
 use Rattle.law_reports.specs.pipes.Piped.{Heads, asked_as, IsOpening, AreFresh, IsPiped}
 use Rattle.law_reports.specs.pipes.puts.Paid.{Pays}
 use Rattle.law_reports.specs.pipes.below_hubs.Behind.{Spots, IsBehind}
-use Rattle.law_reports.specs.pipes.below_hubs.Inward.{Inlet, is_inlet, IsInletBy, AreInlets, Unmoved, Begins, IsInward}
+use Rattle.law_reports.specs.pipes.below_hubs.Inward.{Inlet, is_inlet, IsInletBy, AreInlets, Unmoved, Begins, is_in_below, IsInward}
 use Rattle.law_reports.proofs.lemmas.pipes.Across.{WasIn}
 use Rattle.law_reports.proofs.lemmas.pipes.Carried.{was_met, fresh_carried}
 use Rattle.law_reports.proofs.lemmas.pipes.Driven.{was_end, now_end, opening_then}
@@ -63,11 +61,11 @@ use Rattle.law_reports.proofs.lemmas.pipes.lemmas.below_hubs.Steps.{step_keeps_i
 
 -- ---- the speed of one below a hub
 
-pub in_slow : (x : EpDesc) → is_bulk_in_below x ≡ true → ((asked_as x).speed == 2) ≡ false
+pub in_slow : (x : EpDesc) → is_in_below x ≡ true → ((asked_as x).speed == 2) ≡ false
 in_slow x is =
     slow_field x.speed (not_high (is_high x.speed)
     (sym (and_parts (not (is_high x.speed)) (comes_in x.name.way)
-    (and_parts (is_bulk x.kind) (not (is_high x.speed) && comes_in x.name.way) is).1).0))
+    (and_parts (has_stream x.kind) (not (is_high x.speed) && comes_in x.name.way) is).1).0))
 
 in_ctl : ways.In ≡ ways.Ctl → ⊥
 in_ctl e = cc
@@ -75,8 +73,8 @@ in_ctl e = cc
 pub begins_less : (v : Inlet) (addr ep : ℕ) (bytes more : List ℕ) → IsPrefix bytes more → Begins v more → Begins v bytes
 begins_less v addr ep bytes more front all = begins_both bytes more (concat v.packets) front all
 
-module _ (fixed : Fixed) (x : Sides) (o : Spots) (v : Inlet) (s : Standing) (m : Lines) (h : Heads) (puts : ℕ → List ℕ) (w : World)
-    (k : IsPiped fixed x s m h w) (pays : Pays fixed x s m puts w) (b : IsBehind fixed o s m puts w) (i : IsInward fixed v s m w) where
+module _ (fixed : Fixed) (x : Sides) (o : Spots) (v : Inlet) (timely : ℕ → Bool) (s : Standing) (m : Lines) (h : Heads) (puts : ℕ → List ℕ) (w : World)
+    (k : IsPiped fixed x s m h w) (pays : Pays fixed x s m puts w) (b : IsBehind fixed o s m puts w) (i : IsInward fixed v timely s m w) where
   abbrev new : World
   new = driver_next w
 
@@ -88,15 +86,15 @@ module _ (fixed : Fixed) (x : Sides) (o : Spots) (v : Inlet) (s : Standing) (m :
   in_begun e y here way on there =
       ⊎_elim (λ (near : may_meet (queued w.driver) e (queued_endpoint y) ≡ true).
       let u = i.met e y here way on (record { there = there; near = near }) in
-      in_begins v.packets (told_key kinds.Bulk Directions.In (asked_as y.desc)) v.hub v.place (wired fixed w)
+      in_begins v.packets (told_key v.desc.kind Directions.In (asked_as y.desc)) v.hub v.place (wired fixed w)
       (hand_host (in_hand s) (32 * y.queue) u.queue).toggle (hand_host (in_hand s) (32 * y.queue) u.queue).waiting
-      (not (hand_host (in_hand s) (32 * y.queue) u.queue).halted) (concat (m.acc (32 * y.queue))) u.side)
+      (not (hand_host (in_hand s) (32 * y.queue) u.queue).halted) (timely (32 * y.queue)) (concat (m.acc (32 * y.queue))) u.side)
       (λ (off : may_meet (queued w.driver) e (queued_endpoint y) ≡ false). i.left.unmet e y here way on there off)
       (cases_Bool (may_meet (queued w.driver) e (queued_endpoint y)))
 
   pub in_streams : (e : ℕ) (y : Endpoint) → slice_get w.driver.endpoints e ≡ Some y → y.desc.name.way ≡ ways.In
       → is_inlet v y.desc.name.addr y.desc.name.num ≡ true → has_stream y.desc.kind ≡ true
-  in_streams e y here way on = in_stream y.desc (in_claimed fixed x o v s m h puts w k pays b i e y here way on)
+  in_streams e y here way on = in_stream y.desc (in_claimed fixed x o v timely s m h puts w k pays b i e y here way on)
 
   new_begins : (e : ℕ) (y : Endpoint) → slice_get w.driver.endpoints e ≡ Some y → y.desc.name.way ≡ ways.In
       → is_inlet v y.desc.name.addr y.desc.name.num ≡ true → IsOpening w.driver y → Begins v []
@@ -117,7 +115,7 @@ module _ (fixed : Fixed) (x : Sides) (o : Spots) (v : Inlet) (s : Standing) (m :
       (λ addr ep. Unmoved v (wired fixed w)) i.fresh
 
   abbrev Stands : Standing → List ℕ → ℕ → EpDesc → Type 0
-  Stands t known q c = IsInBehind v.packets (wired fixed w) v.hub v.place known t.parts (in_hand t) (32 * q) (asked_as c)
+  Stands t known q c = IsInBehind v.desc.kind v.packets (wired fixed w) v.hub v.place (timely (32 * q)) known t.parts (in_hand t) (32 * q) (asked_as c)
 
   -- ---- an endpoint that was met stands as it must
 
@@ -146,8 +144,8 @@ module _ (fixed : Fixed) (x : Sides) (o : Spots) (v : Inlet) (s : Standing) (m :
 
     its_then : Stands t (concat (m.acc (32 * u.endpoint.queue))) u.endpoint.queue u.endpoint.desc
     its_then =
-        step_keeps_in_behind v.packets (λ addr ep. false) (λ addr ep. false) (λ j. j == n) (λ j. false) s.ends s t w new (wired fixed w)
-        v.hub v.place (concat (m.acc n)) n (asked_as y.desc) k.mixed step (by_way s w k.mixed n is_in)
+        step_keeps_in_behind v.desc.kind v.packets (λ addr ep. false) (λ addr ep. false) (λ j. j == n) (λ j. false) s.ends s t w new (wired fixed w)
+        v.hub v.place (timely n) (concat (m.acc n)) n (asked_as y.desc) k.mixed step (by_way s w k.mixed n is_in)
         (publishes_start w.driver b.first) (eq-eqb n n refl) (ap s.near same ∙ near) (ap t.near same ∙ near_then)
         (i.met e y u.here its_way its_on is_met)
 
@@ -176,7 +174,7 @@ module _ (fixed : Fixed) (x : Sides) (o : Spots) (v : Inlet) (s : Standing) (m :
     pub driven_inward : ((e : ℕ) (z : Endpoint) → slice_get (driver_next w).driver.endpoints e ≡ Some z → z.desc.name.way ≡ ways.In
         → is_inlet v z.desc.name.addr z.desc.name.num ≡ true → z.gone ≡ true
         → Begins v (told_to (driver_next w).driver z.desc.name))
-        → IsInward fixed v t next.lines (driver_next w)
+        → IsInward fixed v timely t next.lines (driver_next w)
     driven_inward gone_ins = record {
       claims = i.claims;
       inlets = inlets_then;
@@ -226,10 +224,10 @@ module _ (fixed : Fixed) (x : Sides) (o : Spots) (v : Inlet) (s : Standing) (m :
       own_on = ap (λ (c : EpDesc). is_inlet v c.name.addr c.name.num) (sym desc_is) ∙ on
 
       own_desc : y_own.desc ≡ v.desc
-      own_desc = is_its fixed x o v s m h puts w k pays b i at.number y_own its_here own_way own_on
+      own_desc = is_its fixed x o v timely s m h puts w k pays b i at.number y_own its_here own_way own_on
 
-      its_claimed : is_bulk_in_below y_own.desc ≡ true
-      its_claimed = in_claimed fixed x o v s m h puts w k pays b i at.number y_own its_here own_way own_on
+      its_claimed : is_in_below y_own.desc ≡ true
+      its_claimed = in_claimed fixed x o v timely s m h puts w k pays b i at.number y_own its_here own_way own_on
 
       ins : IsIn (t.parts (32 * at.endpoint.queue))
       ins a u there_it active = none_active s w at a u ((opened.told.parts n_own).elements_were a u there_it) active
@@ -241,7 +239,7 @@ module _ (fixed : Fixed) (x : Sides) (o : Spots) (v : Inlet) (s : Standing) (m :
 
       its_inward : Stands t [] at.endpoint.queue y_own.desc
       its_inward =
-          head_opens_in v.packets (wired fixed w) v.hub v.place t.parts (in_hand t) n_own (asked_as y_own.desc)
+          head_opens_in v.desc.kind v.packets (wired fixed w) v.hub v.place (timely n_own) t.parts (in_hand t) n_own (asked_as y_own.desc)
           (O.head_then fixed x s m h w k at t alike opened mixed next).named.queue
           (O.head_then fixed x s m h w k at t alike opened mixed next).named.head
           (O.head_then fixed x s m h w k at t alike opened mixed next).named.is (in_slow y_own.desc its_claimed)
@@ -253,9 +251,9 @@ module _ (fixed : Fixed) (x : Sides) (o : Spots) (v : Inlet) (s : Standing) (m :
           (O.head_then fixed x s m h w k at t alike opened mixed next).named.head)
           (subst (λ (c : EpDesc). IsAtHub (wired fixed w).bus.hubs (asked_as c).hub (asked_as c).port v.hub v.place) (sym own_desc) i.hub)
           (λ going.
-          subst (λ (c : EpDesc). InSide v.packets (told_key kinds.Bulk Directions.In (asked_as c)) v.hub v.place
-          (wired fixed w) false false going [])
-          (sym own_desc) (unmoved going))
+          subst (λ (c : EpDesc). InSide v.packets (told_key v.desc.kind Directions.In (asked_as c)) v.hub v.place
+          (wired fixed w) false false going (timely n_own) [])
+          (sym own_desc) (unmoved going (timely n_own)))
 
       none_moved : concat (next.lines.acc (32 * z.queue)) ≡ []
       none_moved = ap (λ (j : ℕ). concat (next.lines.acc j)) own ∙ ap concat next.after.none
@@ -281,7 +279,7 @@ module _ (fixed : Fixed) (x : Sides) (o : Spots) (v : Inlet) (s : Standing) (m :
         (met_still t (opens at t alike opened) e z here way on near_then near was.before was.met))
         (cases_eq (32 * z.queue) (32 * at.endpoint.queue))
 
-    pub opened_inward : IsInward fixed v t next.lines (driver_next w)
+    pub opened_inward : IsInward fixed v timely t next.lines (driver_next w)
     opened_inward = record {
       claims = i.claims;
       inlets = inlets_then;
@@ -300,7 +298,7 @@ module _ (fixed : Fixed) (x : Sides) (o : Spots) (v : Inlet) (s : Standing) (m :
   -- ---- any
 
   pub driver_leaves_inward : (t : Standing) (step : QueueStep s w (driver_next w) t) → IsMixedAt t (driver_next w)
-      → (next : IsTellingNext s m w (driver_next w) t step) → IsInward fixed v t next.lines (driver_next w)
+      → (next : IsTellingNext s m w (driver_next w) t step) → IsInward fixed v timely t next.lines (driver_next w)
   driver_leaves_inward t (opens at _ alike opened) mixed next = opened_inward at t alike opened mixed next
   driver_leaves_inward t (goes e y d _ back is) mixed next =
       driven_inward t (goes e y d t back is) tt mixed next

@@ -1,5 +1,5 @@
--- The report of a world tells the streams of bulk IN endpoints below hubs, at each moment before which their hubs were spared.
-use Rattle.std.proofs.Common.{◌≡◌, ◌≢◌, ℕ, ◌*◌, ◌<◌, ◌==◌, Bool, true, false, List, [], ◌∷◌, ◌++◌, length, filter, slice_get}
+-- The report of a world tells the streams of bulk and interrupt IN endpoints below hubs, at each moment before which their hubs were spared.
+use Rattle.std.proofs.Common.{◌≡◌, ◌≢◌, ℕ, ◌*◌, ◌<◌, ◌==◌, Bool, true, false, not, List, [], ◌∷◌, ◌++◌, length, filter, slice_get}
 use Rattle.std.proofs.Common.{Option, Some, None, cond, ap, refl, sym, subst, ◌∙◌, ⊎_elim, if◌then◌else◌}
 use Rattle.std.specs.Prelude.{◌&&◌, nat_lt, unwrap_or}
 use Rattle.std.specs.List.{AllByRecursion, concat, position, position_or_len}
@@ -12,6 +12,7 @@ use Rattle.law_world.proofs.Common2.{told_first}
 use Rattle.law_world.proofs.Common.{begins_both}
 use Rattle.usb_base.specs.declared.endpoints.EpDesc.{EpDesc}
 use Rattle.usb_base.specs.declared.endpoints.EpName.{EpName}
+use Rattle.usb_base.specs.declared.packets.EpKind.TheVariants as kinds
 use Rattle.usb_base.specs.declared.packets.Way.{Way}
 use Rattle.usb_base.specs.declared.packets.Way.TheVariants as ways
 use Rattle.script_types.specs.declared.scripts.Script.{Script}
@@ -23,8 +24,9 @@ use Rattle.claims_report.specs.Reports.{WholeReport}
 use Rattle.claims_report.specs.Streams.{opened, stream_by, told, told_in, has_stream, AreBytesRight, IsRightStream}
 use Rattle.claims_world.specs.Ends.{IsEndedOnce}
 use Rattle.claims_world.specs.Streams.{report_of}
-use Rattle.claims_world.specs.BelowStreams.{is_bulk_in_below, has_hub, is_claimed_in, heard_clear, IsSparedAt, IsSparedBefore}
+use Rattle.claims_world.specs.BelowStreams.{is_bulk, is_bulk_in_below, has_hub, is_claimed_in, heard_clear, IsSparedAt, IsSparedBefore}
 use Rattle.claims_world.specs.BelowStreams.{AreBelowInStreams, BelowInsAreRight}
+use Rattle.claims_driver.specs.Scripts.{comes_in}
 use Rattle.drv_table.specs.declared.content.Endpoint.{Endpoint}
 use Rattle.drv_table.specs.Words.{is_high}
 use Rattle.law_driver.specs.queued_drivers.Queued.{queued_endpoint, queued}
@@ -46,8 +48,9 @@ use Rattle.law_reports.specs.pipes.Piped.{asked_as}
 use Rattle.law_reports.specs.pipes.high_streams.Names.{HasItsNames}
 use Rattle.law_reports.specs.pipes.high_streams.Opened.{AreOpened}
 use Rattle.law_reports.specs.pipes.below_hubs.BehindLaws.{spots_of}
-use Rattle.law_reports.specs.pipes.below_hubs.Inward.{is_inlet, Begins, IsSpared, HasInward}
-use Rattle.law_reports.specs.pipes.below_hubs.InwardLaws.{inlet_of, IsInletOf, HasItsInlet, TextsKeepInsBelow}
+use Rattle.law_reports.specs.pipes.below_hubs.Inward.{is_inlet, Begins, IsSpared, is_in_below, HasInward}
+use Rattle.law_reports.specs.pipes.below_hubs.InwardLaws.{inlet_of, takes_in, IsInletOf, HasItsInlet, CompletesInTime, IsInwardAt, TextsKeepInsBelow}
+use Rattle.law_reports.proofs.lemmas.pipes.lemmas.below_hubs.BehindControlled.{bulk_is}
 use Rattle.law_reports.proofs.lemmas.pipes.lemmas.below_hubs.BehindMoments.{texts_are_behind}
 use Rattle.law_reports.proofs.lemmas.pipes.lemmas.below_hubs.InwardControlled.{in_stream}
 use Rattle.law_reports.proofs.lemmas.pipes.lemmas.below_hubs.InwardDriven.{in_begun}
@@ -69,11 +72,11 @@ position_passes p xs i x at here =
     by true is = same_Some (position_or_len p xs) i is
     by false is = absurd cc
 
-hub_number : (s : Script) (x : EpDesc) → is_claimed_in s x ≡ true → Some (asked_as x).hub ≡ x.hub
+hub_number : (s : Script) (x : EpDesc) → takes_in s x ≡ true → Some (asked_as x).hub ≡ x.hub
 hub_number s x claims = by x.hub refl
   where
-    both : (is_bulk_in_below x ≡ true) × (has_hub s x.hub x.port ≡ true)
-    both = and_parts (is_bulk_in_below x) (has_hub s x.hub x.port) claims
+    both : (is_in_below x ≡ true) × (has_hub s x.hub x.port ≡ true)
+    both = and_parts (is_in_below x) (has_hub s x.hub x.port) claims
 
     by : (o : Option ℕ) → x.hub ≡ o → Some (asked_as x).hub ≡ x.hub
     by None is = absurd (true≢false (sym both.1 ∙ ap (λ (o : Option ℕ). has_hub s o x.port) is))
@@ -84,7 +87,8 @@ hub_number s x claims = by x.hub refl
 -- ---- a moment of a run
 
 module _ (s : Script) (w : World) (puts : ℕ → List ℕ) (x : EpDesc) (is : IsInletOf s x)
-    (a : HasInward (fixed_of s) (sides_of s) (spots_of s) (inlet_of s x) puts w) (opens : AreOpened s w.driver)
+    (timely : ℕ → Bool)
+    (a : HasInward (fixed_of s) (sides_of s) (spots_of s) (inlet_of s x) timely puts w) (opens : AreOpened s w.driver)
     (names : HasItsNames s) where
   abbrev r : WholeReport
   r = report_of (fixed_of s) w
@@ -98,8 +102,8 @@ module _ (s : Script) (w : World) (puts : ℕ → List ℕ) (x : EpDesc) (is : I
     going = a.piped.going;
   }
 
-  bulk : is_bulk_in_below x ≡ true
-  bulk = (and_parts (is_bulk_in_below x) (has_hub s x.hub x.port) is.claims).0
+  bulk : is_in_below x ≡ true
+  bulk = (and_parts (is_in_below x) (has_hub s x.hub x.port) is.claims).0
 
   streams : has_stream x.kind ≡ true
   streams = in_stream x bulk
@@ -138,7 +142,7 @@ module _ (s : Script) (w : World) (puts : ℕ → List ℕ) (x : EpDesc) (is : I
     there_begins : IsThere (queued w.driver) (queued_endpoint k.endpoint)
         → Begins (inlet_of s x) (concat (a.lines.acc (32 * k.endpoint.queue)))
     there_begins there =
-        in_begun (fixed_of s) (sides_of s) (spots_of s) (inlet_of s x) a.standing a.lines a.heads puts w a.piped a.pays a.behind a.inward
+        in_begun (fixed_of s) (sides_of s) (spots_of s) (inlet_of s x) timely a.standing a.lines a.heads puts w a.piped a.pays a.behind a.inward
         k.number y k.here its_way on there
 
     by_told : IsTold w h k.number k.endpoint → Begins (inlet_of s x) (h.telling.told.told k.number)
@@ -201,17 +205,35 @@ module _ (text : List ℕ) (s : Script) (spelled : Spells text s) where
         nth_all (λ (c : HubContent). Some c.address ≡ x.hub → heard_clear c ≡ false) (moment s j).world.bus.hubs (inlet_of s x).hub h spared
         here (ap (λ (a : ℕ). Some a) (eqb-true h.address (asked_as x).hub address) ∙ hub_number s x is.claims)
 
-    inward : (k : ℕ) → IsSparedBefore s x k
-        → HasInward (fixed_of s) (sides_of s) (spots_of s) (inlet_of s x) (puts_at s k) (moment s k).world
-    inward k spared = texts_are_inward text s x spelled is k (λ j low. spared_at j (spared j low))
+    inward : (k : ℕ) → IsSparedBefore s x k → ((j : ℕ) → j < k → CompletesInTime s (inlet_of s x) j) → IsInwardAt s (inlet_of s x) k
+    inward k spared completes = texts_are_inward text s x spelled is k (λ j low. spared_at j (spared j low)) completes
+
+    pub right_at : (k : ℕ) → IsSparedBefore s x k → ((j : ℕ) → j < k → CompletesInTime s (inlet_of s x) j)
+        → IsRightStream s (report_of (fixed_of s) (moment s k).world) x.name
+    right_at k spared completes =
+        let a : IsInwardAt s (inlet_of s x) k = inward k spared completes in
+        right_in s (moment s k).world (puts_at s k) x is a.timely a.inward (moments_are_opened s names.fit k) names
+
+  takes_bulk : (x : EpDesc) → is_claimed_in s x ≡ true → takes_in s x ≡ true
+  takes_bulk x claims =
+      let both = and_parts (is_bulk_in_below x) (has_hub s x.hub x.port) claims in
+      let inner = and_parts (is_bulk x.kind) (not (is_high x.speed) && comes_in x.name.way) both.0 in
+      and_from (is_in_below x) (has_hub s x.hub x.port)
+      (and_from (has_stream x.kind) (not (is_high x.speed) && comes_in x.name.way) (ap has_stream (bulk_is x.kind inner.0)) inner.1) both.1
+
+  bulk_kind : (x : EpDesc) → is_claimed_in s x ≡ true → x.kind ≡ kinds.Bulk
+  bulk_kind x claims =
+      bulk_is x.kind
+      (and_parts (is_bulk x.kind) (not (is_high x.speed) && comes_in x.name.way)
+      (and_parts (is_bulk_in_below x) (has_hub s x.hub x.port) claims).0).0
 
   ins_right : BelowInsAreRight s
   ins_right k =
       all_kept (IsSeated s) (λ x. IsSparedBefore s x k → IsRightStream s (report_of (fixed_of s) (moment s k).world) x.name)
       (is_claimed_in s) (opened s (report_of (fixed_of s) (moment s k).world))
       (λ x seat claims spared.
-      right_in s (moment s k).world (puts_at s k) x (record { claims = claims; opened = seat.0 })
-      (inward x (record { claims = claims; opened = seat.0 }) k spared) (moments_are_opened s names.fit k) names)
+      right_at x (record { claims = takes_bulk x claims; opened = seat.0 }) k spared
+      (λ j low periodic. absurd (let never : kinds.Bulk ≡ kinds.Interrupt = sym (bulk_kind x claims) ∙ periodic in cc)))
       (opened_seated s (report_of (fixed_of s) (moment s k).world) (seated k).seats)
 
 pub texts_keep_ins_below : TextsKeepInsBelow

@@ -1,4 +1,4 @@
--- Each bulk IN endpoint that a text opens below a hub of it is the only one of its name, and before the first line nothing of it is on its
+-- Each bulk or interrupt IN endpoint that a text opens below a hub of it is the only one of its name, and before the first line nothing of it is on its
 -- way.
 use Rattle.std.proofs.Common.{◌≡◌, ◌≢◌, ℕ, zero, suc, Bool, true, false, List, [], ◌∷◌, Option, Some, None, refl}
 use Rattle.std.proofs.Common.{sym, ap, subst, ◌∙◌, inl, inr}
@@ -26,8 +26,8 @@ use Rattle.endpoint_script.specs.Device.{opened_part}
 use Rattle.endpoint_script.specs.Items.{packets_of}
 use Rattle.bus_wire.specs.Bus.{opening_bus, opening_wired}
 use Rattle.claims_driver.specs.Scripts.{comes_in}
-use Rattle.claims_report.specs.Streams.{items_of}
-use Rattle.claims_world.specs.BelowStreams.{is_bulk, is_bulk_in_below, has_port, has_hub, is_claimed_in}
+use Rattle.claims_report.specs.Streams.{has_stream, items_of}
+use Rattle.claims_world.specs.BelowStreams.{has_port, has_hub}
 use Rattle.drv_table.specs.Words.{is_high}
 use Rattle.law_common.proofs.Booleans.{not_high}
 use Rattle.law_driver.specs.queued_drivers.Queued.{IsOfWay}
@@ -42,8 +42,8 @@ use Rattle.law_devices.proofs.lemmas.declared_controls.Names.{control_zero}
 use Rattle.law_opened.specs.Opened.{IsOpened}
 use Rattle.law_opened.proofs.Opened.{declared_by, known, texts_open_once, texts_open_fit}
 use Rattle.law_translated.specs.InPipes.{in_opening}
-use Rattle.law_translated.specs.Lift.{Buffered}
 use Rattle.law_below_hubs.specs.HostEvents.{told_key}
+use Rattle.law_below_hubs.specs.HostOuts.{its_way as its_way_of}
 use Rattle.law_below_hubs.specs.HubsKeys.{IsOfKind}
 use Rattle.law_below_hubs.specs.InWork.{sender_of_line}
 use Rattle.law_below_hubs.specs.Seated.{sender_at}
@@ -51,33 +51,33 @@ use Rattle.law_below_hubs.proofs.HostOpens.{in_opens}
 use Rattle.law_below_hubs.proofs.Opening.{opens_without_keys, opens_right}
 use Rattle.law_world.specs.steps.receiving_runs.Runs.{KindOfLine}
 use Rattle.law_reports.specs.pipes.Piped.{asked_as}
-use Rattle.law_reports.specs.pipes.below_hubs.Inward.{Inlet, is_inlet, IsInletBy, Unmoved}
-use Rattle.law_reports.specs.pipes.below_hubs.InwardLaws.{OpensInlet, inlet_of, IsInletOf, HasItsInlet, TextsOpenInlets}
+use Rattle.law_reports.specs.pipes.below_hubs.Inward.{Inlet, is_inlet, IsInletBy, Unmoved, is_in_below}
+use Rattle.law_reports.specs.pipes.below_hubs.InwardLaws.{OpensInlet, inlet_of, takes_in, IsInletOf, HasItsInlet, TextsOpenInlets}
 use Rattle.law_reports.proofs.lemmas.pipes.lemmas.below_hubs.BelowSenders.{sender_is, no_zero_in}
 use Rattle.law_reports.proofs.lemmas.pipes.lemmas.below_hubs.BelowTexts.{HasItsHub, its_hub}
-use Rattle.law_reports.proofs.lemmas.pipes.lemmas.below_hubs.InwardControlled.{in_bulk, its_number}
+use Rattle.law_reports.proofs.lemmas.pipes.lemmas.below_hubs.InwardControlled.{in_stream, its_number}
 
 none_true : {A : Type 0} → false ≡ true → A
 none_true e = absurd (false≢true e)
 
 -- ---- its hub
 
-pub in_slow : (x : EpDesc) → is_bulk_in_below x ≡ true → is_high x.speed ≡ false
+pub in_slow : (x : EpDesc) → is_in_below x ≡ true → is_high x.speed ≡ false
 in_slow x is =
     not_high (is_high x.speed)
     (sym (and_parts (not (is_high x.speed)) (comes_in x.name.way)
-    (and_parts (is_bulk x.kind) (not (is_high x.speed) && comes_in x.name.way) is).1).0)
+    (and_parts (has_stream x.kind) (not (is_high x.speed) && comes_in x.name.way) is).1).0)
 
-pub claimed_in_way : (x : EpDesc) → is_bulk_in_below x ≡ true → x.name.way ≡ ways.In
+pub claimed_in_way : (x : EpDesc) → is_in_below x ≡ true → x.name.way ≡ ways.In
 claimed_in_way x is =
     in_way x.name.way (and_parts (not (is_high x.speed)) (comes_in x.name.way)
-    (and_parts (is_bulk x.kind) (not (is_high x.speed) && comes_in x.name.way) is).1).1
+    (and_parts (has_stream x.kind) (not (is_high x.speed) && comes_in x.name.way) is).1).1
 
-in_hub : (s : Script) (d : EpDesc) → is_claimed_in s d ≡ true → HasItsHub s d
+in_hub : (s : Script) (d : EpDesc) → takes_in s d ≡ true → HasItsHub s d
 in_hub s d claims = by d.hub refl
   where
-    both : (is_bulk_in_below d ≡ true) × (has_hub s d.hub d.port ≡ true)
-    both = and_parts (is_bulk_in_below d) (has_hub s d.hub d.port) claims
+    both : (is_in_below d ≡ true) × (has_hub s d.hub d.port ≡ true)
+    both = and_parts (is_in_below d) (has_hub s d.hub d.port) claims
 
     found : (hub : ℕ) (o : Option HubText) → d.hub ≡ Some hub → find (λ (h : HubText). h.addr == hub) s.hubs ≡ o
         → option_map_or (has_port d.port) o false ≡ true → HasItsHub s d
@@ -95,20 +95,21 @@ record IsUnsentIn (s : Script) (x : EpDesc) : Type 0 where
   sender : sender_at (opening_wired s) x.name.addr x.name.num ≡ Some (sender_of_line (in_opening (packets_of (items_of s x.name))))
   number : x.name.num ≢ 0
 
-sends_none : (kind : EpKind) (v : Way) (t : EpText) → v ≡ ways.In → kind ≡ kinds.Bulk
+sends_none : (kind : EpKind) (v : Way) (t : EpText) → v ≡ ways.In → has_stream kind ≡ true
     → sender_of_part (opened_part v kind t) ≡ Some (sender_of_line (in_opening (packets_of t.items)))
-sends_none kinds.Bulk ways.In t way bulk = refl
-sends_none _ _ t way bulk = cc
+sends_none kinds.Bulk ways.In t way streams = refl
+sends_none kinds.Interrupt ways.In t way streams = refl
+sends_none _ _ t way streams = cc
 
 of_draft : (w : Draft) (x : EpDesc) → IsDeclaredDraft w → AreZeroesAlone (opening_bus (script_of w)) → IsKnownDesc w.devices x
-    → x.name.way ≡ ways.In → x.kind ≡ kinds.Bulk → IsUnsentIn (script_of w) x
+    → x.name.way ≡ ways.In → has_stream x.kind ≡ true → IsUnsentIn (script_of w) x
 of_draft w x h alone (inl control) way bulk = absurd (other (sym way ∙ control))
   where
     other : ways.In ≡ ways.Ctl → ⊥
     other e = cc
 of_draft w x h alone (inr n) way bulk =
     let k = declared_by w.devices n.name x (device_of w.devices n.name.addr) refl n.here in
-    subst (λ (d : EpDesc). d.name.way ≡ ways.In → d.kind ≡ kinds.Bulk → IsUnsentIn (script_of w) d) k.desc
+    subst (λ (d : EpDesc). d.name.way ≡ ways.In → has_stream d.kind ≡ true → IsUnsentIn (script_of w) d) k.desc
     (λ inward kind. record {
       sender = sender_is w h n.name x k inward ∙ sends_none k.text.desc.kind k.text.desc.name.way k.text inward kind
           ∙ ap (λ is. Some (sender_of_line (in_opening (packets_of is)))) (sym (items w h n.name x k inward));
@@ -124,8 +125,8 @@ module _ (text : List ℕ) (s : Script) (x : EpDesc) (spelled : Spells text s) (
   drafted : IsScriptOf IsDeclaredDraft s
   drafted = spelled_kept IsDeclaredDraft empty_declared second_declared line_declares text s spelled
 
-  both : (is_bulk_in_below x ≡ true) × (has_hub s x.hub x.port ≡ true)
-  both = and_parts (is_bulk_in_below x) (has_hub s x.hub x.port) is.claims
+  both : (is_in_below x ≡ true) × (has_hub s x.hub x.port ≡ true)
+  both = and_parts (is_in_below x) (has_hub s x.hub x.port) is.claims
 
   its_way : x.name.way ≡ ways.In
   its_way = claimed_in_way x both.0
@@ -135,7 +136,7 @@ module _ (text : List ℕ) (s : Script) (x : EpDesc) (spelled : Spells text s) (
       let zero : AreZeroesAlone (opening_bus s) = texts_leave_zero_alone text s spelled in
       subst (λ (z : Script). IsUnsentIn z x) drafted.is
       (of_draft drafted.draft x drafted.holds (subst (λ (z : Script). AreZeroesAlone (opening_bus z)) (sym drafted.is) zero)
-      (known drafted.draft drafted.holds x (subst (λ (z : Script). IsOpened z x) (sym drafted.is) is.opened)) its_way (in_bulk x both.0))
+      (known drafted.draft drafted.holds x (subst (λ (z : Script). IsOpened z x) (sym drafted.is) is.opened)) its_way (in_stream x both.0))
 
   -- one name is that of one endpoint
   inlet_in : (y : EpDesc) → IsOpened s y → y.name.way ≡ ways.In → is_inlet (inlet_of s x) y.name.addr y.name.num ≡ true → y ≡ x
@@ -193,10 +194,10 @@ module _ (text : List ℕ) (s : Script) (x : EpDesc) (spelled : Spells text s) (
   its = in_hub s x is.claims
 
   unmoved : Unmoved (inlet_of s x) (opening_wired s)
-  unmoved going =
-      in_opens v.packets (told_key kinds.Bulk Directions.In (asked_as x)) v.hub v.place (opening_wired s) going
-      (opens_without_keys s Buffered (told_key kinds.Bulk Directions.In (asked_as x)) v.hub v.place its.text its.there its.less)
-      (opens_right (IsOfKind (told_key kinds.Bulk Directions.In (asked_as x))) s) unsent.sender
+  unmoved going timely =
+      in_opens v.packets (told_key x.kind Directions.In (asked_as x)) v.hub v.place (opening_wired s) going timely
+      (opens_without_keys s (its_way_of x.kind) (told_key x.kind Directions.In (asked_as x)) v.hub v.place its.text its.there its.less)
+      (opens_right (IsOfKind (told_key x.kind Directions.In (asked_as x))) s) unsent.sender
 
   pub inlets_there : HasItsInlet s (inlet_of s x)
   inlets_there = record {

@@ -4,7 +4,6 @@ use Rattle.std.specs.Prelude.{◌⊎◌}
 use Rattle.std.proofs.lemmas.Option.{same_Some}
 use Rattle.usb_base.specs.declared.packets.Dir.TheVariants as Directions
 use Rattle.usb_base.specs.declared.packets.EpKind.{EpKind}
-use Rattle.usb_base.specs.declared.packets.EpKind.TheVariants as kinds
 use Rattle.hub_keys.specs.declared.key.Key.{Key}
 use Rattle.bus_wire.specs.Bus.{Wired}
 use Rattle.qh_qtd.specs.declared.token.Token.{Token}
@@ -174,9 +173,10 @@ module _ (parts now : StructureSets) (hand later : Hand) (n pid : ℕ) (k : Spar
         refl,
       )
 
-  pub in_spared : (packets : List (List ℕ)) (wire : Wired) (i place : ℕ) (known : List ℕ) (x : Endpoint) → pid ≡ 1
-      → IsInBehind packets wire i place known parts hand n x → IsInBehind packets wire i place known now later n x
-  in_spared packets wire i place known x one b =
+  pub in_spared : (kind : EpKind) (packets : List (List ℕ)) (wire : Wired) (i place : ℕ) (timely : Bool) (known : List ℕ) (x : Endpoint)
+      → pid ≡ 1
+      → IsInBehind kind packets wire i place timely known parts hand n x → IsInBehind kind packets wire i place timely known now later n x
+  in_spared kind packets wire i place timely known x one b =
       let o : HasOverlay now n b.queue = k.head b.queue b.head in
       let same : hand_host later n o.queue ≡ hand_host hand n b.queue = k.hosts n o.queue ∙ overlay_host b.queue o.queue o.overlay in
       record {
@@ -189,7 +189,6 @@ module _ (parts now : StructureSets) (hand later : Hand) (n pid : ℕ) (k : Spar
         first = starts_stay b.first;
         rests = subst RestsToStart (sym same) b.rests;
         hub = b.hub;
-        side = subst (λ (host : HostSide). InSide packets (told_key kinds.Bulk Directions.In x) i place wire host.toggle host.waiting
-            (not host.halted)
-            known) (sym same) b.side;
+        side = subst (λ (host : HostSide). InSide packets (told_key kind Directions.In x) i place wire host.toggle host.waiting
+            (not host.halted) timely known) (sym same) b.side;
       }

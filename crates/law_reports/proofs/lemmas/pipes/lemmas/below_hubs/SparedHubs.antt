@@ -41,6 +41,7 @@ use Rattle.law_devices.proofs.Places.{set_here, set_beside}
 use Rattle.law_translated.specs.Lift.{Way, Buffered}
 use Rattle.law_translated.specs.KeySlots.{KeySlot}
 use Rattle.law_translated.specs.KeyHubs.{HaveNone, HasAt}
+use Rattle.law_below_hubs.specs.HostOuts.{its_way}
 use Rattle.law_below_hubs.specs.HubsKeys.{HubsHave}
 use Rattle.law_below_hubs.specs.PlainAsks.{PlainLeaves}
 use Rattle.law_below_hubs.proofs.PlainAsks.{plain_asks_by_key}
@@ -221,28 +222,28 @@ module _ (k : Key) where
   record HasIt (i place : ℕ) (s : KeySlot) (hubs : List HubContent) : Type 0 where
     content : HubContent
     there : slice_get hubs i ≡ Some content
-    has : HasAt Buffered k place content.translators.all s
+    has : HasAt (its_way k.kind) k place content.translators.all s
 
-  its : (hubs : List HubContent) (i place : ℕ) (s : KeySlot) → HubsHave Buffered k i place hubs s → HasIt i place s hubs
+  its : (hubs : List HubContent) (i place : ℕ) (s : KeySlot) → HubsHave (its_way k.kind) k i place hubs s → HasIt i place s hubs
   its [] i place s has = absurd has
   its (h ∷ hs) zero place s has = record { content = h; there = refl; has = has.0 }
   its (h ∷ hs) (suc i) place s has = let r = its hs i place s has.1 in record { content = r.content; there = r.there; has = r.has }
 
-  with_it : (hubs : List HubContent) (i place : ℕ) (s t : KeySlot) (h : HubContent) → HubsHave Buffered k i place hubs t
-      → slice_get hubs i ≡ Some h → HasAt Buffered k place h.translators.all s → HubsHave Buffered k i place hubs s
+  with_it : (hubs : List HubContent) (i place : ℕ) (s t : KeySlot) (h : HubContent) → HubsHave (its_way k.kind) k i place hubs t
+      → slice_get hubs i ≡ Some h → HasAt (its_way k.kind) k place h.translators.all s → HubsHave (its_way k.kind) k i place hubs s
   with_it [] i place s t h has here it = absurd has
   with_it (x ∷ hs) zero place s t h has here it =
-      (subst (λ (y : HubContent). HasAt Buffered k place y.translators.all s) (sym (same_Some x h here)) it, has.1)
+      (subst (λ (y : HubContent). HasAt (its_way k.kind) k place y.translators.all s) (sym (same_Some x h here)) it, has.1)
   with_it (x ∷ hs) (suc i) place s t h has here it = (has.0, with_it hs i place s t h has.1 here it)
 
 pub spared_hubs_keep_keys : SparedHubsKeepKeys
 spared_hubs_keep_keys v k wire after spared ask out reply made plain s has =
-    let p : PlainLeaves Buffered k v.hub v.place s after =
-    plain_asks_by_key Buffered k v.hub v.place wire ask out reply after s plain has made in
+    let p : PlainLeaves (its_way k.kind) k v.hub v.place s after =
+    plain_asks_by_key (its_way k.kind) k v.hub v.place wire ask out reply after s plain has made in
     let old : HasIt k v.hub v.place s wire.bus.hubs = its k wire.bus.hubs v.hub v.place s has in
     let still : StillHas v.hub old.content after.bus.hubs =
     subst (λ (z : Wired). StillHas v.hub old.content z.bus.hubs) (sym made.1)
     (after_keeps v.hub old.content (spared old.content old.there) wire.fixed wire.bus ask out (asked_of wire.fixed wire.bus ask) plain refl
     old.there) in
     with_it k after.bus.hubs v.hub v.place s p.slot still.content p.has still.there
-    (subst (λ (ts : Translators). HasAt Buffered k v.place ts.all s) (sym still.same) old.has)
+    (subst (λ (ts : Translators). HasAt (its_way k.kind) k v.place ts.all s) (sym still.same) old.has)

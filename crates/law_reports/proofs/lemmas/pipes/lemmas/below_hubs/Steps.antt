@@ -318,7 +318,8 @@ step_keeps_out_behind kind sends takes ins outs ends s t w new wire i place know
     (refl, out)) t step near_then) kind wire i place known x refl b
 
 pub step_keeps_in_behind : StepKeepsInBehind
-step_keeps_in_behind packets sends takes ins outs ends s t w new wire i place known n x mixed step by_way starts on near near_then b =
+step_keeps_in_behind kind packets sends takes ins outs ends s t w new wire i place timely known n x mixed step by_way starts on near
+    near_then b =
     in_spared s.parts t.parts (in_hand s) (in_hand t) n 1
-    (spared sends takes ins outs ends s w new mixed by_way starts n 1 near (inr (refl, on)) t step near_then) packets wire i place known x
-    refl b
+    (spared sends takes ins outs ends s w new mixed by_way starts n 1 near (inr (refl, on)) t step near_then) kind packets wire i place
+    timely known x refl b
