@@ -1,7 +1,8 @@
 -- What a translator has for the host at the last complete-split (USB 2.0, 11.18.4; EHCI 1.0, 4.12.2.1 and 4.12.3.1).
 --     LastCompletesAreLate        two microframes lie between the last in which something is laid for an interrupt endpoint, or for an
 --                                 isochronous IN, and its last complete-split
---     IsToldByLast d index hub port e   at that begin the result of an interrupt is there, and the last bytes of an isochronous IN
+--     IsToldByLast d index hub port e   at that begin the result of an interrupt is there, of which something was worked whatever came; and
+--                                 the last bytes of an isochronous IN
 --     TextsTellByLast             so it is of each entry at each moment of a script that a text spells
 use Rattle.std.specs.Prelude.{◌≡◌, ℕ, ◌+◌, ◌/◌, ◌%◌, ◌≤◌, true, List, slice_get, Some}
 use Rattle.std.specs.List.{AllByRecursion}
@@ -19,6 +20,7 @@ use Rattle.drv_table.specs.DriverContent.{DriverContent}
 use Rattle.tt_pipeline.specs.declared.entry.Entry.{Entry}
 use Rattle.tt_pipeline.specs.declared.rows.AnswerRow.TheVariants.{Last, Result}
 use Rattle.tt_pipeline.specs.Answers.{answer_row}
+use Rattle.tt_pipeline.specs.Work.{nothing_brought}
 use Rattle.multi_tt.specs.Translators.{Translator}
 use Rattle.hub_class.specs.HubContent.{HubContent}
 use Rattle.bus_world.specs.Budgets.{moment}
@@ -45,6 +47,8 @@ pub record IsToldByLast (d : DriverContent) (index hub port : ℕ) (e : Entry) :
   pub owner : IsOwned d index hub port e.key
   pub result : (u : ℕ) → owner.desc.kind ≡ kinds.Interrupt → e.ask.kind ≡ kinds.Interrupt → e.heard.whole ≡ true
       → IsLastIn owner.placement.cmask u → u ≤ index % 8 → answer_row e ≡ Result
+  pub worked : (u : ℕ) → owner.desc.kind ≡ kinds.Interrupt → IsLastIn owner.placement.cmask u → u ≤ index % 8
+      → e.heard ≡ nothing_brought → ⊥
   pub last : (u : ℕ) (pid : Pid) (bytes : List ℕ) → owner.desc.kind ≡ kinds.Iso → dir_of owner.desc.name.way ≡ dirs.In
       → IsHeardIn e pid bytes → IsLastIn owner.placement.cmask u → u ≤ index % 8 → answer_row e ≡ Last
 

@@ -26,6 +26,8 @@ ghost use Rattle.law_reports.specs.pipes.below_hubs.InwardLaws.{
   TextsOpenInlets,
   TextsAreInward,
   TextsKeepInsBelow,
+  TextsKeepTimelyIns,
+  TextsHaveResults,
 };
 ghost use Rattle.law_reports.specs.pipes.below_hubs.DeafLaws.{UnopenedHubsAreSpared};
 ghost use Rattle.law_reports.specs.pipes.below_hubs.BelowLaws.{TextsKeepBelowStreams, TextsKeepStreams};
@@ -77,7 +79,8 @@ pub fn each_script_keeps_outs_below()
 {}
 
 /// Each event and each command leaves an IN endpoint as it must stand; at an event of the controller its hub must be spared: the last
-/// request that it heard neither clears a buffer nor resets a translator.
+/// request that it heard neither clears a buffer nor resets a translator. And where the last complete-split of a frame comes to an interrupt
+/// endpoint, its host must be in time, and the result there.
 pub fn an_event_keeps_ins_below()
     ensures spared { SparedHubsKeepKeys }
     ensures controller { ControllerKeepsInward }
@@ -85,12 +88,19 @@ pub fn an_event_keeps_ins_below()
     ensures command { CommandKeepsInward }
 {}
 
-/// So it stands at each moment of each script before which its hub was spared, whatever endpoints the script opens; and so what is told of
-/// it begins its device's stream.
+/// So it stands at each moment of each script before which its hub was spared, and no last complete-split of an interrupt endpoint came
+/// too late, whatever endpoints the script opens; and so what is told of it begins its device's stream.
 pub fn each_moment_has_ins_below()
     ensures opening { TextsOpenInlets }
     ensures standing { TextsAreInward }
     ensures streams { TextsKeepInsBelow }
+    ensures timely { TextsKeepTimelyIns }
+{}
+
+/// Where the walk of the frames comes to the last complete-split of a frame, of an interrupt IN endpoint, the result of what the hub's
+/// translator has of it is there.
+pub fn the_last_complete_finds_the_result()
+    ensures { TextsHaveResults }
 {}
 
 /// A hub whose endpoint 0 no line of the script opens hears no request, so it is spared at each moment.

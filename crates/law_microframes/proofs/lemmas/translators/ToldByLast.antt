@@ -1,9 +1,10 @@
 -- At the begin of its last complete-split's microframe an interrupt's result is there, and so are the last bytes of an isochronous IN, at each
 -- moment of the run of a script that a text spells.
-use Rattle.std.proofs.Common.{◌≡◌, ℕ, ◌+◌, ◌/◌, ◌%◌, ◌≤◌, true, false, List, [], ◌∷◌, Option, Some, None, refl, sym, ap, subst, ◌∙◌, arith}
+use Rattle.std.proofs.Common.{◌≡◌, ℕ, ◌+◌, ◌-◌, ◌/◌, ◌%◌, ◌≤◌, true, false, List, [], ◌∷◌, Option, Some, None, refl, sym, ap, subst, ◌∙◌, arith}
 use Rattle.std.specs.Prelude.{is_some, nat_eq}
 use Rattle.std.specs.List.{AllByRecursion}
 use Rattle.std.proofs.lemmas.Bool.{true≢false, and_parts}
+use Rattle.usb_base.specs.declared.packets.Ask.{Ask}
 use Rattle.usb_base.specs.declared.packets.Dir.{Dir}
 use Rattle.usb_base.specs.declared.packets.Dir.TheVariants as dirs
 use Rattle.usb_base.specs.declared.packets.EpKind.{EpKind}
@@ -15,7 +16,9 @@ use Rattle.bandwidth.specs.Placements.{is_classic}
 use Rattle.bandwidth.specs.Sums.{is_hub, is_translator, is_active}
 use Rattle.drv_periodic_table.specs.Periodic.{dir_of}
 use Rattle.drv_table.specs.DriverContent.{DriverContent}
+use Rattle.tt_pipeline.specs.declared.entry.Brought.{Brought}
 use Rattle.tt_pipeline.specs.declared.entry.Entry.{Entry}
+use Rattle.tt_pipeline.specs.Work.{nothing_brought}
 use Rattle.bus_world.specs.World.{World}
 use Rattle.bus_world.specs.Budgets.{moment}
 use Rattle.claims_world.specs.Answered.{end_of, AllAnswered}
@@ -27,6 +30,8 @@ use Rattle.law_translator.specs.hub_plans.HubPlans.{AreKeysApart}
 use Rattle.law_translator.specs.hub_plans.Laws.{IsPlacedRight}
 use Rattle.law_translator.proofs.Answered.{all_settled}
 use Rattle.law_translator.proofs.KeepsStuffed.{HoldsStuffed}
+use Rattle.law_translator.proofs.Owing.{Came, unseen, partial, ended, Coming}
+use Rattle.law_translator.proofs.Work.{All}
 use Rattle.law_microframes.specs.plans.Laws.{PlacesAreRight}
 use Rattle.law_microframes.specs.translators.Keeping.{IsOwned, IsRight, WorldKeeps}
 use Rattle.law_microframes.specs.translators.Told.{IsLastIn, HasAnswer, IsToldByLast, TextsTellByLast}
@@ -65,21 +70,34 @@ module _ (d : DriverContent) (index hub port : ℕ) (right : PlacesAreRight d)
       ap (λ (n : ℕ). (n + 187) / 188) planned.times in
       omega (arith, late, first, times)
 
-  told : (g : Key → ℕ) (es : List Entry) → AllAnswered 2 (plans_now d index hub port) (index % 8) (watched_of g es)
+  -- two microframes after the first of its plan something of it is worked
+  is_worked : (k : Key) (ask : Ask) (b : Brought) (gap now : ℕ) → (plans_now d index hub port).first k + 2 ≤ now
+      → Came (plans_now d index hub port) k ask b gap (now - 1) → b ≡ nothing_brought → ⊥
+  is_worked k ask b gap now late (unseen is none ahead) nothing = absurd (omega (arith, late, ahead))
+  is_worked k ask b gap now late (partial lacks some count bytes begun) nothing =
+      let none : b.parts ≡ 0 = ap (λ (x : Brought). x.parts) nothing in
+      absurd (omega (arith, some, none))
+  is_worked k ask b gap now late (ended whole fits begun) nothing =
+      absurd (true≢false (sym whole ∙ ap (λ (x : Brought). x.whole) nothing))
+
+  told : (g : Key → ℕ) (es : List Entry) → All (Coming 6 (plans_now d index hub port) (index % 8)) (watched_of g es) → AllAnswered 2 (plans_now d index hub port) (index % 8) (watched_of g es)
       → HaveKeys (IsOwned d index hub port) (watched_of g es) → AllByRecursion (IsToldByLast d index hub port) es
-  told g [] all keys = tt
-  told g (e ∷ es) all keys =
+  told g [] comes all keys = tt
+  told g (e ∷ es) comes all keys =
       let o : IsOwned d index hub port e.key = keys.0 in (
         record {
           owner = o;
           result = λ u kind asked whole last now.
               let before = ends_before e.key o u (subst (λ (k : EpKind). HasAnswer k (dir_of o.desc.name.way)) (sym kind) tt) last in
               all.0.result asked whole (omega (arith, before, now)) (omega arith);
+          worked = λ u kind last now nothing.
+              let before = ends_before e.key o u (subst (λ (k : EpKind). HasAnswer k (dir_of o.desc.name.way)) (sym kind) tt) last in
+              is_worked e.key e.ask e.heard _ (index % 8) (omega (arith, before, now)) comes.0.heard nothing;
           last = λ u pid bytes kind dir heard last now.
               let before = ends_before e.key o u (answer_of o.desc.kind (dir_of o.desc.name.way) kind dir) last in
               all.0.last pid bytes heard (omega (arith, before, now)) (omega arith);
         },
-        told g es all.1 keys.1,
+        told g es comes.1 all.1 keys.1,
       )
 
 pub texts_tell_by_last : TextsTellByLast
@@ -93,6 +111,6 @@ texts_tell_by_last text s spelled k i j h t here there =
     (gaps s k i n) x))
     h.translators.all j t hub there in
     told w.driver w.registers.frame_index h.address (port_at h.translators.multi j) (scripts_place_right s (spelled_fits text s spelled) k)
-    (moment_apart text s spelled k) (gaps s k i j) t.pipeline
+    (moment_apart text s spelled k) (gaps s k i j) t.pipeline one.0.comes
     (all_settled (plans_now w.driver w.registers.frame_index h.address (port_at h.translators.multi j)) (w.registers.frame_index % 8)
     (watched_of (gaps s k i j) t.pipeline) one.0.comes one.0.settles) one.1

@@ -16,11 +16,12 @@
 --     IsInletOf s x            so it is, and a line opens it
 --     TextsOpenInlets          so it is in each script that a text spells, and before the first line nothing of it is on its way
 --     IsLateSince s n k        at moment k the host of the queue head at n waits, and a frame began since it does
---     CompletesInTime s v k    where the walk comes then to the last complete-split of the inlet's frame, it doesn't wait for so long, and
---                              the result is there
+--     CompletesInTime s v k    where the walk comes then to the last complete-split of an interrupt inlet's frame, it isn't so late
+--     TextsHaveResults         at the last complete-split of an interrupt IN endpoint its result is there
 --     IsInwardAt s v k         the endpoint stands as it must at moment k
 --     TextsAreInward           so it is at each moment before which its hub was spared and it completed in time
---     TextsKeepInsBelow        so its stream is right there
+--     TextsKeepInsBelow        so the stream of a bulk endpoint is right there
+--     TextsKeepTimelyIns       .. and that of any, at each moment before which its last complete-splits came in time
 use Rattle.std.specs.Prelude.{◌≡◌, ℕ, suc, ◌==◌, ◌%◌, ◌<◌, ◌&&◌, Bool, true, false, List, Some, None}
 use Rattle.std.specs.List.{AllByRecursion}
 use Rattle.usb_base.specs.declared.commands.Cmd.{Cmd}
@@ -33,8 +34,9 @@ use Rattle.script_types.specs.declared.scripts.Script.{Script}
 use Rattle.script_text.specs.Faults.{Spells}
 use Rattle.endpoint_script.specs.Items.{packets_of}
 use Rattle.bus_wire.specs.Bus.{Fixed, Wired, fixed_of, opening_bus, opening_wired, begin_after}
-use Rattle.claims_report.specs.Streams.{items_of}
-use Rattle.claims_world.specs.BelowStreams.{has_hub, BelowInsAreRight}
+use Rattle.claims_report.specs.Streams.{items_of, IsRightStream}
+use Rattle.claims_world.specs.BelowStreams.{has_hub, BelowInsAreRight, IsSparedBefore}
+use Rattle.claims_world.specs.Streams.{report_of}
 use Rattle.qh_qtd.specs.declared.queue_head.Qh.{Qh}
 use Rattle.mem_queues.specs.Structures.{queue_head_at_address}
 use Rattle.hc_copy.specs.Planning.{host_in}
@@ -101,6 +103,7 @@ pub record IsCompletingLast (w : World) (h : HeldQueue) : Type 0 where
   pub held : w.control.frame.hand ≡ Some (hands.Queue h)
   pub unsettled : h.copy.settled ≡ None
   pub turn : turn_of w.control.frame.index h.copy.queue_head ≡ turns.Work
+  pub works : h.copy.queue_head.token.active ≡ true
   pub below : (h.copy.queue_head.eps == 2) ≡ false
   pub waits : h.copy.queue_head.token.split_state ≡ true
   pub last : is_last_of w.control.frame.index h.copy.queue_head ≡ true
@@ -161,12 +164,17 @@ pub data IsLateSince (s : Script) (n : ℕ) : ℕ → Type 0 where
       → BeginsFrame (fixed_of s) (moment s k).world → IsLateSince s n (suc k)
   waits_on : (k : ℕ) → IsLateSince s n k → WaitsAt (moment s k).world n → IsLateSince s n (suc k)
 
--- where the walk comes to the last complete-split of an interrupt inlet's frame, its start-split came in this frame, and its result is
--- there
+-- where the walk comes to the last complete-split of an interrupt inlet's frame, its start-split came in this frame
 abbrev pub CompletesInTime : Script → Inlet → ℕ → Type 0
 CompletesInTime s v k = v.desc.kind ≡ kinds.Interrupt → (h : HeldQueue) → IsCompletingLast (moment s k).world h
-    → key_started h.copy.queue_head ≡ told_key kinds.Interrupt Directions.In (asked_as v.desc)
-    → (IsLateSince s h.copy.at k → ⊥) × HasResult (key_started h.copy.queue_head) v.hub v.place (wired (fixed_of s) (moment s k).world)
+    → key_started h.copy.queue_head ≡ told_key kinds.Interrupt Directions.In (asked_as v.desc) → IsLateSince s h.copy.at k → ⊥
+
+-- whatever the hub and the translator are
+abbrev pub TextsHaveResults : Type 0
+TextsHaveResults = (text : List ℕ) (s : Script) (x : EpDesc) → Spells text s → (k : ℕ) (h : HeldQueue)
+    → IsCompletingLast (moment s k).world h
+    → key_started h.copy.queue_head ≡ told_key kinds.Interrupt Directions.In (asked_as x) → (i place : ℕ)
+    → HasResult (key_started h.copy.queue_head) i place (wired (fixed_of s) (moment s k).world)
 
 -- .. where nothing is on its way that the host has waited for too long
 pub record IsInwardAt (s : Script) (v : Inlet) (k : ℕ) : Type 0 where
@@ -181,3 +189,9 @@ TextsAreInward = (text : List ℕ) (s : Script) (x : EpDesc) → Spells text s �
 
 abbrev pub TextsKeepInsBelow : Type 0
 TextsKeepInsBelow = (text : List ℕ) (s : Script) → Spells text s → BelowInsAreRight s
+
+-- whatever its kind is
+abbrev pub TextsKeepTimelyIns : Type 0
+TextsKeepTimelyIns = (text : List ℕ) (s : Script) (x : EpDesc) → Spells text s → IsInletOf s x → (k : ℕ) → IsSparedBefore s x k
+    → ((j : ℕ) → j < k → CompletesInTime s (inlet_of s x) j)
+    → IsRightStream s (report_of (fixed_of s) (moment s k).world) x.name

@@ -25,6 +25,7 @@ pub mod InwardCommanded
 pub mod InwardMoments
 pub mod BelowSenders
 pub mod InwardTexts
+pub mod LastResults
 pub mod InwardRuns
 pub mod InwardReporting
 pub mod DeafHubs

@@ -195,7 +195,16 @@ module _ (fixed : Fixed) (v : Inlet) (timely : ℕ → Bool) (s : Standing) (w :
         → (timely r.copy.at ≡ true) × HasResult (key_started r.copy.queue) v.hub v.place (wired fixed w)
     asked waits last =
         asks periodic held
-        (record { part = part; held = in_periodic; unsettled = refl; turn = r.turn; below = low; waits = waits; last = last })
+        (record {
+          part = part;
+          held = in_periodic;
+          unsettled = refl;
+          turn = r.turn;
+          works = r.works;
+          below = low;
+          waits = waits;
+          last = last;
+        })
         (key_is ∙ ap (told_key kinds.Interrupt Directions.In) its)
 
     by_time : IsInTime (told_key kinds.Interrupt Directions.In t) v.hub v.place (wired fixed w) r.copy.queue.token.split_state (is_last_of

@@ -49,7 +49,7 @@ use Rattle.law_reports.specs.pipes.high_streams.Names.{HasItsNames}
 use Rattle.law_reports.specs.pipes.high_streams.Opened.{AreOpened}
 use Rattle.law_reports.specs.pipes.below_hubs.BehindLaws.{spots_of}
 use Rattle.law_reports.specs.pipes.below_hubs.Inward.{is_inlet, Begins, IsSpared, is_in_below, HasInward}
-use Rattle.law_reports.specs.pipes.below_hubs.InwardLaws.{inlet_of, takes_in, IsInletOf, HasItsInlet, CompletesInTime, IsInwardAt, TextsKeepInsBelow}
+use Rattle.law_reports.specs.pipes.below_hubs.InwardLaws.{inlet_of, takes_in, IsInletOf, HasItsInlet, CompletesInTime, IsInwardAt, TextsKeepInsBelow, TextsKeepTimelyIns}
 use Rattle.law_reports.proofs.lemmas.pipes.lemmas.below_hubs.BehindControlled.{bulk_is}
 use Rattle.law_reports.proofs.lemmas.pipes.lemmas.below_hubs.BehindMoments.{texts_are_behind}
 use Rattle.law_reports.proofs.lemmas.pipes.lemmas.below_hubs.InwardControlled.{in_stream}
@@ -235,6 +235,9 @@ module _ (text : List ℕ) (s : Script) (spelled : Spells text s) where
       right_at x (record { claims = takes_bulk x claims; opened = seat.0 }) k spared
       (λ j low periodic. absurd (let never : kinds.Bulk ≡ kinds.Interrupt = sym (bulk_kind x claims) ∙ periodic in cc)))
       (opened_seated s (report_of (fixed_of s) (moment s k).world) (seated k).seats)
+
+pub texts_keep_timely_ins : TextsKeepTimelyIns
+texts_keep_timely_ins text s x spelled is k spared completes = right_at text s spelled x is k spared completes
 
 pub texts_keep_ins_below : TextsKeepInsBelow
 texts_keep_ins_below text s spelled = ins_right text s spelled

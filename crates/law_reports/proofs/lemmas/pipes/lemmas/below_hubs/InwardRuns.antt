@@ -6,7 +6,10 @@ use Rattle.std.proofs.lemmas.Bool.{and_parts, true≢false}
 use Rattle.law_world.proofs.Common.{lines_can}
 use Rattle.usb_base.specs.declared.commands.Cmd.{Cmd}
 use Rattle.usb_base.specs.declared.endpoints.EpDesc.{EpDesc}
+use Rattle.usb_base.specs.declared.packets.Dir.TheVariants as Directions
+use Rattle.usb_base.specs.declared.packets.EpKind.TheVariants as kinds
 use Rattle.usb_base.specs.declared.packets.Way.TheVariants as ways
+use Rattle.periodic_walk.specs.declared.state.HeldQueue.{HeldQueue}
 use Rattle.script_types.specs.declared.scripts.Event.{Event}
 use Rattle.script_types.specs.declared.scripts.Event.TheVariants as events
 use Rattle.script_types.specs.declared.scripts.Line.{Line}
@@ -42,7 +45,12 @@ use Rattle.law_reports.specs.pipes.below_hubs.BehindLaws.{OpensSpot, OpensSpots,
 use Rattle.law_reports.specs.pipes.below_hubs.Inward.{Inlet, is_inlet, IsSpared, is_in_below, renewed, HasInward}
 use Rattle.law_reports.specs.pipes.below_hubs.InwardLaws.{OpensInlet, inlet_of, IsInletOf, HasItsInlet, TextsAreInward}
 use Rattle.law_reports.specs.pipes.below_hubs.InwardLaws.{IsLateBy, now, before, IsLateSince, begins, waits_on, WorldAsksInTime}
-use Rattle.law_reports.specs.pipes.below_hubs.InwardLaws.{CompletesInTime, IsInwardAt}
+use Rattle.law_reports.specs.pipes.below_hubs.InwardLaws.{IsCompletingLast, CompletesInTime, IsInwardAt}
+use Rattle.law_reports.specs.pipes.Piped.{asked_as}
+use Rattle.law_below_hubs.specs.HostEvents.{told_key}
+use Rattle.law_below_hubs.specs.HostIns.{HasResult}
+use Rattle.law_microframes.specs.translators.Fresh.{key_started}
+use Rattle.law_reports.proofs.lemmas.pipes.lemmas.below_hubs.LastResults.{texts_have_results}
 use Rattle.law_reports.proofs.lemmas.pipes.lemmas.below_hubs.InTime.{late_before}
 use Rattle.law_reports.proofs.lemmas.pipes.DeclaredOpens.{texts_declare}
 use Rattle.law_reports.proofs.lemmas.pipes.Moments.{lines_both}
@@ -145,11 +153,12 @@ module _ (s : Script) (v : Inlet) (k : ℕ) (at : IsInwardAt s v k) where
     fits : AllByRecursion (FitsLeft (CanBeInward (sides_of s) (spots_of s) v)) p.orders
 
   module _ (spared : IsSpared v (wired (fixed_of s) (moment s k).world))
-      (finds : WorldFindsNoneTold (wired (fixed_of s) (moment s k).world) (moment s k).world) (completes : CompletesInTime s v k) where
+      (finds : WorldFindsNoneTold (wired (fixed_of s) (moment s k).world) (moment s k).world) (completes : CompletesInTime s v k)
+      (results : (h : HeldQueue) → IsCompletingLast (moment s k).world h
+      → key_started h.copy.queue_head ≡ told_key kinds.Interrupt Directions.In (asked_as v.desc) → (i place : ℕ)
+      → HasResult (key_started h.copy.queue_head) i place (wired (fixed_of s) (moment s k).world)) where
     asks : WorldAsksInTime v at.timely (wired (fixed_of s) (moment s k).world) (moment s k).world
-    asks periodic h last key =
-        let c = completes periodic h last key in
-        (by (at.timely h.copy.at) refl c.0, c.1)
+    asks periodic h last key = (by (at.timely h.copy.at) refl (completes periodic h last key), results h last key v.hub v.place)
       where
         by : (b : Bool) → at.timely h.copy.at ≡ b → (IsLateSince s h.copy.at k → ⊥) → at.timely h.copy.at ≡ true
         by true on never = on
@@ -285,7 +294,8 @@ module _ (text : List ℕ) (s : Script) (x : EpDesc) (spelled : Spells text s) (
   ready (suc k) spared completes =
       let r = ready k (λ j low. spared j (omega (arith, low))) (λ j low. completes j (omega (arith, low))) in
       let n : Next s v k r.at (tick (fixed_of s) (moment s k)) (puts_tick (moment s k) (puts_at s k)) =
-      by_orders s v k r.at (spared k (omega arith)) (texts_find_none_told text s spelled k) (completes k (omega arith)) (moment s k).orders
+      by_orders s v k r.at (spared k (omega arith)) (texts_find_none_told text s spelled k) (completes k (omega arith))
+      (λ h last key i place. texts_have_results text s x spelled k h last key i place) (moment s k).orders
       r.room r.fits in
       let p : Next s v k r.at (moment s (suc k)) (puts_tick (moment s k) (puts_at s k)) =
       subst (λ (p : OrderedWorld). Next s v k r.at p (puts_tick (moment s k) (puts_at s k))) (sym (next_moment s k)) n in
