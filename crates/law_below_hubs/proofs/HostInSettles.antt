@@ -192,7 +192,8 @@ module _ (kind : EpKind) (last : Bool) (q : Qh) (out : List ℕ) (streams : has_
         }) (Bytes pid bs)) (sym is) k
 
     -- what the table says where it ends
-    abbrev row_is : (h : Heard) → is_ending h ≡ true → complete_row kind last h (plain_row tokens.In h 0) ≡ answered (plain_row tokens.In h 0)
+    abbrev row_is : (h : Heard) → is_ending h ≡ true
+        → complete_row kind last h (plain_row tokens.In h 0) ≡ answered (plain_row tokens.In h 0)
     row_is h on = row_of kind last h streams on (plain_row tokens.In h 0)
 
     outcome_is : (h : Heard) → is_ending h ≡ true → in_outcome kind last h (host_in q) ≡ complete_outcome
@@ -285,5 +286,6 @@ pub in_settles : (kind : EpKind) (last : Bool) (q : Qh) (out : List ℕ) (reply 
     → q.token.split_state ≡ true → q.token.pid ≡ 1
     → InSettles kind last q (settlement_as kind q out last reply) reply
 in_settles kind last q out reply streams below waits inward =
-    subst (λ (t : Transaction). InSettles kind last q (settled_by t q out last reply) reply) (sym (is_completing kind q 1 below waits inward))
+    subst (λ (t : Transaction). InSettles kind last q (settled_by t q out last reply) reply)
+    (sym (is_completing kind q 1 below waits inward))
     (by_reply kind last q out streams waits reply inward)

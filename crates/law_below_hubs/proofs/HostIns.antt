@@ -148,7 +148,8 @@ given_at Piped (Told a t) r is answers ends = (a, ap (Told a) is)
 -- ---- a transaction
 
 module _ (kind : EpKind) (last : Bool) (packets : List (List ℕ)) (part : Structures) (q : Qh) (i place : ℕ) (w v : Wired) (timely : Bool)
-    (known out : List ℕ) (reply : Reply) (streams : has_stream kind ≡ true) (at : IsInBelow q) (hub : IsAtHub w.bus.hubs q.hub q.port i place)
+    (known out : List ℕ) (reply : Reply) (streams : has_stream kind ≡ true) (at : IsInBelow q)
+    (hub : IsAtHub w.bus.hubs q.hub q.port i place)
     (sent : AreSent part q (transaction_of kind q).bytes out)
     (made : transacts_by w (call_in (transaction_of kind q) out last).ask
     (call_in (transaction_of kind q) out last).out reply v)
@@ -387,8 +388,8 @@ module _ (kind : EpKind) (last : Bool) (packets : List (List ℕ)) (part : Struc
         half_by _ _ CompleteHeard.heard = half o.wait o.slot waiting o.holds
         half_by _ _ CompleteHeard.unheard = half o.wait o.slot waiting o.holds
 
-        side_with : (l : Line) (u : Wait) (b : Bool) → IsWait b u → IsTimely kind timely u → z.host.waiting ≡ b → concat l.accepted ≡ known ++ moved
-            → l.expects ≡ now
+        side_with : (l : Line) (u : Wait) (b : Bool) → IsWait b u → IsTimely kind timely u → z.host.waiting ≡ b
+            → concat l.accepted ≡ known ++ moved → l.expects ≡ now
             → (going ≡ true → l.going ≡ true) → sender_of_line l ≡ sender_of_line line → Then l u told_at.slot → After
         side_with l u b wait on_time is knows expects goes same h0 = record {
           line = l;
@@ -407,8 +408,8 @@ module _ (kind : EpKind) (last : Bool) (packets : List (List ℕ)) (part : Struc
           holds = h0;
         }
 
-        still_side : (l : Line) (u : Wait) (b : Bool) → is_moved z.outcome ≡ false → IsWait b u → IsTimely kind timely u → z.host.waiting ≡ b
-            → l.accepted ≡ line.accepted → l.expects ≡ line.expects → (going ≡ true → l.going ≡ true)
+        still_side : (l : Line) (u : Wait) (b : Bool) → is_moved z.outcome ≡ false → IsWait b u → IsTimely kind timely u
+            → z.host.waiting ≡ b → l.accepted ≡ line.accepted → l.expects ≡ line.expects → (going ≡ true → l.going ≡ true)
             → sender_of_line l ≡ sender_of_line line → Then l u told_at.slot → After
         still_side l u b still wait on_time is accepted expects goes same h0 =
             side_with l u b wait on_time is (ap concat accepted ∙ o.knows ∙ still_known (still, by_none z.outcome still))
@@ -518,7 +519,8 @@ module _ (kind : EpKind) (last : Bool) (packets : List (List ℕ)) (part : Struc
             still_side line Idle false still starts (idle_timely kind timely) off refl refl (λ on. goes_now) refl
             (hears (Hand Packets.Err) (hand_given Packets.Err is (λ e. cc)) line fails)
         complete_by _ is (gave_up own_kind at_last still off) =
-            still_side line Idle false still starts (idle_timely kind timely) off refl refl (λ on. goes_now) refl (gave_none own_kind at_last is)
+            still_side line Idle false still starts (idle_timely kind timely) off refl refl (λ on. goes_now) refl
+            (gave_none own_kind at_last is)
         complete_by r is (goes_on _ still on) =
             still_side line o.wait true still waiting o.in_time on refl refl (λ on. goes_now) refl (half_by reply told_at.slot told_at.step)
 

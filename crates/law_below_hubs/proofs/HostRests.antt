@@ -3,7 +3,6 @@ use Rattle.std.proofs.Common.{◌≡◌, ℕ, ◌-◌, ◌==◌, Bool, true, fal
 use Rattle.std.proofs.Common.{◌∙◌, arith}
 use Rattle.std.proofs.lemmas.Bool.{false≢true}
 use Rattle.usb_base.specs.declared.packets.EpKind.{EpKind}
-use Rattle.usb_base.specs.declared.packets.EpKind.TheVariants as Kinds
 use Rattle.usb_base.specs.declared.packets.Reply.{Reply}
 use Rattle.qh_qtd.specs.declared.qtd.Qtd.{Qtd}
 use Rattle.qh_qtd.specs.declared.queue_head.Qh.{Qh}
@@ -90,8 +89,9 @@ own_out_rests kind last q out reply streams at count off going = by (is_moved (s
         (host_in q))
         (host_in q) at.works still off))
 
-pub own_in_rests : (kind : EpKind) (last : Bool) (q : Qh) (out : List ℕ) (reply : Reply) → has_stream kind ≡ true → IsInBelow q → q.token.active ≡ true
-    → (settlement_as kind q out last reply).host.active ≡ false → (settlement_as kind q out last reply).host.halted ≡ false
+pub own_in_rests : (kind : EpKind) (last : Bool) (q : Qh) (out : List ℕ) (reply : Reply) → has_stream kind ≡ true → IsInBelow q
+    → q.token.active ≡ true → (settlement_as kind q out last reply).host.active ≡ false
+    → (settlement_as kind q out last reply).host.halted ≡ false
     → (settlement_as kind q out last reply).host.waiting ≡ false
 own_in_rests kind last q out reply streams at works off going =
     by (is_moved (settlement_as kind q out last reply).outcome) refl

@@ -37,7 +37,7 @@ use Rattle.law_ring.specs.Streams.StreamEffect.{same, aside, grows}
 use Rattle.law_ring.specs.Pipes.{IsIn}
 use Rattle.law_common.proofs.Booleans.{not_itself}
 use Rattle.law_controller.specs.controlled_streams.Kept.{KeepsEach}
-use Rattle.law_frames.specs.Met.{Kind, AQueue}
+use Rattle.law_frames.specs.Met.{Kind}
 use Rattle.law_frames.specs.FrameHand.{FrameHand}
 use Rattle.law_frames.specs.FrameStreams.{IsIsoAsk}
 use Rattle.law_controller.specs.frame_control.Both.{RunsBoth, BothEffect}
@@ -77,7 +77,8 @@ begun_in_time index waiting timely still before off on = by (index % 8 == 0) ref
     by false is = before on
 
 module _ (kind : EpKind) (packets : List (List ℕ)) (near : ℕ → Bool) (n : ℕ) (x : Endpoint) (i place : ℕ) (timely still : Bool)
-    (known : List ℕ) (base : Base) (member : ℕ → Bool) (met : ℕ → Option Kind) (d : DriverContent) (descs parts : StructureSets) (hand : Hand) (frame : FrameHand) (c : Content)
+    (known : List ℕ) (base : Base) (member : ℕ → Bool) (met : ℕ → Option Kind) (d : DriverContent) (descs parts : StructureSets)
+    (hand : Hand) (frame : FrameHand) (c : Content)
     (wire after : Wired) (now : StructureSets) (later : Hand) (frame_later : FrameHand) (describing : IsDescribing d descs parts)
     (runs : RunsBoth base member met (both descs parts) hand frame c)
     (effect : BothEffect begins_by transacts_by (both descs parts) c.control hand frame wire after now later frame_later)
@@ -244,8 +245,8 @@ module _ (kind : EpKind) (packets : List (List ℕ)) (near : ℕ → Bool) (n : 
         nothing_more [] refl
         (told_quiet stays_so told
         (subst (λ (v : Wired). SideAt v still) (sym begins.1)
-        (less_timely packets (told_key kind Directions.In x) i place (record wire { bus = begin_after wire.fixed index wire.bus }) side.toggle
-        side.waiting (not side.halted) (begun_timely index side.waiting timely) still known
+        (less_timely packets (told_key kind Directions.In x) i place (record wire { bus = begin_after wire.fixed index wire.bus })
+        side.toggle side.waiting (not side.halted) (begun_timely index side.waiting timely) still known
         (begun_in_time index side.waiting timely still on_time.before on_time.begun)
         (begin_leaves_in packets (told_key kind Directions.In x) i place index wire side.toggle side.waiting
         (not side.halted) timely known refl streams k.side))))

@@ -10,7 +10,6 @@ use Rattle.usb_base.specs.declared.packets.Ask.{Ask}
 use Rattle.usb_base.specs.declared.packets.Dir.{Dir}
 use Rattle.usb_base.specs.declared.packets.Dir.TheVariants as Directions
 use Rattle.usb_base.specs.declared.packets.EpKind.{EpKind}
-use Rattle.usb_base.specs.declared.packets.EpKind.TheVariants as Kinds
 use Rattle.hub_keys.specs.declared.key.Key.{Key}
 use Rattle.bus_wire.specs.Bus.{Wired}
 use Rattle.claims_report.specs.Streams.{has_stream}

@@ -3,20 +3,26 @@
 --     Opens, Starts, ResultComes     host, hub and device stand as they must
 --     UnsentBreaks                   not where the host sent nothing, and the hub has a packet
 --     ReadStarts                     so they do for an IN; `NoStreamBreaks`: not where the device has nothing to send
+--     LostWaits                      of an interrupt IN whose device knows that its second packet was taken, the host has the first
+--                                    alone, and nothing of the key is in the hub: it waits for a result that is gone
+--     LateBreaks, GivenUpBreaks      a host that is in time doesn't stand so; nor does one that gave up, and would start again: it
+--                                    would take the third packet for the second
 --     fresh, stale                   what a pipeline has of an interrupt OUT's start as it came, and two microframes later
 --     FreshIsUntold, StaleBreaks     a start finds nothing that was told in the first; not in the second, whose result was told
 --     IsBelow, HighBreaks            its queue head, which rests, is that of an endpoint below the hub; not where it tells high speed
-use Rattle.std.specs.Prelude.{ℕ, ◌==◌, true, false, List, [], ◌∷◌, Some, None, if◌then◌else◌}
+use Rattle.std.specs.Prelude.{ℕ, ◌==◌, Bool, true, false, List, [], ◌∷◌, Some, None, if◌then◌else◌}
 use Rattle.usb_base.specs.declared.packets.Ask.{Ask}
 use Rattle.usb_base.specs.declared.packets.DataPart.TheVariants.{All}
 use Rattle.usb_base.specs.declared.packets.EpKind.TheVariants as Kinds
 use Rattle.usb_base.specs.declared.packets.Pid.TheVariants as Packets
 use Rattle.usb_base.specs.declared.packets.Reply.TheVariants.{Hand}
 use Rattle.hub_keys.specs.Keys.{key_of}
+use Rattle.hub_keys.specs.declared.key.Key.{Key}
 use Rattle.tt_pipeline.specs.declared.entry.Entry.{Entry}
 use Rattle.tt_pipeline.specs.Starting.{started as entered}
 use Rattle.tt_pipeline.specs.Worked.{start_of, after_more}
 use Rattle.bus_wire.specs.Bus.{opening_wired}
+use Rattle.bus_wire.specs.Samples.{opened}
 use Rattle.qh_qtd.specs.declared.queue_head.Qh.{Qh}
 use Rattle.qh_qtd.specs.Blank.{blank_head}
 use Rattle.law_structures.specs.lent_structures.Structures.{QueueHead, Structures, StructureSets}
@@ -50,6 +56,23 @@ ReadStarts = InSide (inward.three_bytes ∷ []) inward.key 0 0 inward.started fa
 
 abbrev pub NoStreamBreaks : Type 0
 NoStreamBreaks = InSide [] inward.key 0 0 inward.started false true true true [] → ⊥
+
+-- ---- an interrupt IN
+
+abbrev pub periodic_key : Key
+periodic_key = record inward.key { kind = Kinds.Interrupt }
+
+abbrev pub three_packets : List (List ℕ)
+three_packets = (7 ∷ []) ∷ (8 ∷ []) ∷ inward.three_bytes ∷ []
+
+abbrev pub LostWaits : Type 0
+LostWaits = InSide three_packets periodic_key 0 0 (opened []) true true true false (7 ∷ [])
+
+abbrev pub LateBreaks : Type 0
+LateBreaks = InSide three_packets periodic_key 0 0 (opened []) true true true true (7 ∷ []) → ⊥
+
+abbrev pub GivenUpBreaks : Type 0
+GivenUpBreaks = (timely : Bool) → InSide three_packets periodic_key 0 0 (opened []) true false true timely (7 ∷ []) → ⊥
 
 -- ---- a pipeline
 

@@ -16,9 +16,9 @@ pub fn an_unworked_entry_is_untold()
     ensures { UnworkedIsUntold }
 {}
 
-/// So it is of an IN endpoint, with the bytes that came; but where a request clears the hub's buffers, and for an interrupt endpoint where a
-/// start-split finds what was told, or the last complete-split of a frame comes to a host that isn't in time, or to an answer that is still
-/// to come.
+/// So it is of an IN endpoint, with the bytes that came; but where a request clears the hub's buffers, and for an interrupt endpoint
+/// where a start-split finds what was told, or the last complete-split of a frame comes to a host that isn't in time, or to an answer
+/// that is still to come.
 pub fn an_in_host_goes_on()
     ensures own { OwnInGoesOn }
     ensures others { OthersLeaveIn }

@@ -68,6 +68,14 @@ pub fn hosts_stand_below()
     ensures no_stream { hosts.NoStreamBreaks }
 {}
 
+/// The host of an interrupt IN waits for a result that is gone with its frame, where its device knows that the packet was taken. It isn't
+/// in time; and where it gave up, host and device wouldn't stand to each other as they must.
+pub fn a_lost_result_is_waited_for()
+    ensures waits { hosts.LostWaits }
+    ensures late { hosts.LateBreaks }
+    ensures given_up { hosts.GivenUpBreaks }
+{}
+
 /// The start of an interrupt OUT finds nothing that was told in a pipeline in which its first start just came, and so nothing is worked;
 /// it does where that is worked, and its result was told.
 pub fn a_fresh_start_is_untold()

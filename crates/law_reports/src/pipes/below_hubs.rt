@@ -79,8 +79,8 @@ pub fn each_script_keeps_outs_below()
 {}
 
 /// Each event and each command leaves an IN endpoint as it must stand; at an event of the controller its hub must be spared: the last
-/// request that it heard neither clears a buffer nor resets a translator. And where the last complete-split of a frame comes to an interrupt
-/// endpoint, its host must be in time, and the result there.
+/// request that it heard neither clears a buffer nor resets a translator. And where the last complete-split of a frame comes to an
+/// interrupt endpoint, its host must be in time, and the result there.
 pub fn an_event_keeps_ins_below()
     ensures spared { SparedHubsKeepKeys }
     ensures controller { ControllerKeepsInward }

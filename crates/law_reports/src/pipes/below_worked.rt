@@ -12,7 +12,7 @@ ghost use Rattle.claims_world.specs.BelowStreams.{is_claimed_below, is_claimed_i
 ghost use Rattle.law_reports.specs.pipes.below_hubs.Behind.{kind_at, its_key, sent_in};
 ghost use Rattle.law_reports.specs.pipes.below_hubs.BehindLaws.{spots_of};
 ghost use Rattle.law_reports.specs.pipes.below_hubs.Inward.{is_inlet};
-ghost use Rattle.law_reports.specs.pipes.below_hubs.InwardLaws.{inlet_of};
+ghost use Rattle.law_reports.specs.pipes.below_hubs.InwardLaws.{inlet_of, takes_in};
 ghost use Rattle.law_reports.specs.pipes.below_hubs.Samples.{page, printer, keys, board, sheet, scanner, asks_hub};
 ghost use Rattle.law_reports.specs.pipes.below_hubs.DeafLaws.{IsUnopenedHub};
 
@@ -66,6 +66,17 @@ pub fn an_in_endpoint_has_its_hub()
     ensures other { is_claimed_in scanner (sheet (Some 8) 4) ≡ false }
     ensures outward { is_claimed_in printer (page (Some 9) 4) ≡ false }
     ensures inward { is_claimed_below scanner (sheet (Some 9) 4) ≡ false }
+{}
+
+/// So are interrupt IN endpoints, at full or low speed behind a port of the hub; not at high speed, nor OUT, nor control endpoints.
+pub fn an_interrupt_in_has_its_hub()
+    ensures bulk { takes_in scanner (sheet (Some 9) 4) ≡ true }
+    ensures interrupt { takes_in scanner (record (sheet (Some 9) 4) { kind = Interrupt; period = 8 }) ≡ true }
+    ensures low { takes_in scanner (record (sheet (Some 9) 4) { kind = Interrupt; period = 8; speed = speeds.Low }) ≡ true }
+    ensures high { takes_in scanner (record (sheet (Some 9) 4) { kind = Interrupt; period = 8; speed = speeds.High }) ≡ false }
+    ensures fifth { takes_in scanner (record (sheet (Some 9) 5) { kind = Interrupt; period = 8 }) ≡ false }
+    ensures outward { takes_in board (keys (Some 9) 4) ≡ false }
+    ensures control { takes_in scanner (record (sheet (Some 9) 4) { kind = Control }) ≡ false }
 {}
 
 /// Its inlet: the first hub, and its one translator, with the packets that the script gives its device.

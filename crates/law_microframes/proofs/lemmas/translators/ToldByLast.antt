@@ -80,7 +80,8 @@ module _ (d : DriverContent) (index hub port : ℕ) (right : PlacesAreRight d)
   is_worked k ask b gap now late (ended whole fits begun) nothing =
       absurd (true≢false (sym whole ∙ ap (λ (x : Brought). x.whole) nothing))
 
-  told : (g : Key → ℕ) (es : List Entry) → All (Coming 6 (plans_now d index hub port) (index % 8)) (watched_of g es) → AllAnswered 2 (plans_now d index hub port) (index % 8) (watched_of g es)
+  told : (g : Key → ℕ) (es : List Entry) → All (Coming 6 (plans_now d index hub port) (index % 8)) (watched_of g es)
+      → AllAnswered 2 (plans_now d index hub port) (index % 8) (watched_of g es)
       → HaveKeys (IsOwned d index hub port) (watched_of g es) → AllByRecursion (IsToldByLast d index hub port) es
   told g [] comes all keys = tt
   told g (e ∷ es) comes all keys =

@@ -1,6 +1,6 @@
--- A bulk or interrupt IN endpoint below a hub in a world with endpoints of every kind (EHCI 1.0, 4.6 to 4.12; USB 2.0, 8.6, 11.14 and 11.17): host, hub
--- and device stand as they must, before it is opened, and while its queue head is met; and what moved of it begins what its device sends,
--- also once it left.
+-- A bulk or interrupt IN endpoint below a hub in a world with endpoints of every kind (EHCI 1.0, 4.6 to 4.12; USB 2.0, 8.6, 11.14 and
+-- 11.17): host, hub and device stand as they must, before it is opened, and while its queue head is met; and what moved of it begins what
+-- its device sends, also once it left.
 --     Inlet                 the endpoint, the hub and the translator that it is behind, and the packets of its device
 --     is_inlet v addr ep    this address and number are those of the endpoint
 --     IsInletBy v d way, AreInlets v d
@@ -8,8 +8,8 @@
 --     Unmoved v wire        nothing of it is on its way, whether or not the host goes on
 --     Begins v bytes        these bytes begin the packets of its device
 --     IsSpared v wire       its hub hasn't heard last that it clears a buffer or resets a translator
---     IsInward fixed v timely s m w    all this of the world w; `timely` tells by the queue head whether the host of an interrupt endpoint is
---                           in time: no frame began while it waited
+--     IsInward fixed v timely s m w    all this of the world w; `timely` tells by the queue head whether the host of an interrupt endpoint
+--                           is in time: no frame began while it waited
 --     HasInward fixed x o v timely puts w     .. for some standing, lines and queue heads, beside the OUT endpoints below hubs
 --     may_be_late hand n p  the host of the queue head at n waits, and hasn't halted
 --     renewed s timely      in time is each host that doesn't wait, or has halted

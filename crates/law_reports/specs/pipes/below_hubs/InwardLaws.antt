@@ -1,4 +1,4 @@
--- Laws of bulk and interrupt IN endpoints below hubs, whatever else is open (EHCI 1.0, 4.6 to 4.12; USB 2.0, 8.6, 11.14, 11.17 and 11.24.2).
+-- Laws of bulk and interrupt IN endpoints below hubs, whatever else is open (EHCI 1.0, 4.6 to 4.12; USB 2.0, 8.6, 11.14, 11.17, 11.24.2).
 --     SparedHubsKeepKeys       a plain transaction takes nothing from a hub that hasn't heard last to clear a buffer or reset a translator
 --     OpensInlet v cmd         an endpoint that the command opens by this name is the one so described
 --     WaitsAt w n              the queue head at n waits for complete-splits
@@ -92,7 +92,8 @@ pub data IsLateBy (fixed : Fixed) (w : World) (timely : ℕ → Bool) (n : ℕ) 
   now : BeginsFrame fixed w → IsLateBy fixed w timely n
   before : timely n ≡ false → WaitsAt w n → IsLateBy fixed w timely n
 
-pub record IsStillInward (fixed : Fixed) (x : Sides) (o : Spots) (v : Inlet) (timely : ℕ → Bool) (puts : ℕ → List ℕ) (w : World) : Type 0 where
+pub record IsStillInward (fixed : Fixed) (x : Sides) (o : Spots) (v : Inlet) (timely : ℕ → Bool) (puts : ℕ → List ℕ)
+    (w : World) : Type 0 where
   pub later : ℕ → Bool
   pub inward : HasInward fixed x o v later puts (controller_next fixed w)
   pub told : (n : ℕ) → later n ≡ false → IsLateBy fixed w timely n

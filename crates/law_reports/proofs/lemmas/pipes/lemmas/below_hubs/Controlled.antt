@@ -1,5 +1,5 @@
 -- Each event of the controller leaves a pipe below a hub as it must stand, in a world with endpoints of every kind.
-use Rattle.std.proofs.Common.{◌≡◌, ℕ, ◌*◌, slice_get, Some, refl, subst}
+use Rattle.std.proofs.Common.{◌≡◌, ℕ, ◌*◌, slice_get, Some, subst}
 use Rattle.usb_base.specs.declared.packets.Dir.TheVariants as Directions
 use Rattle.usb_base.specs.declared.packets.Way.{Way}
 use Rattle.usb_base.specs.declared.packets.Way.TheVariants as ways

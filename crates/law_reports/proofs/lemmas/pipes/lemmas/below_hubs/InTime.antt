@@ -1,6 +1,6 @@
--- The host of an interrupt IN endpoint below a hub, by whether it is in time: where it waits while a frame begins it isn't any more; at each
--- transaction of its queue head it is in time where the world says so.
-use Rattle.std.proofs.Common.{◌≡◌, ◌≢◌, ◌⊎◌, inl, inr, ℕ, ◌==◌, ◌%◌, Bool, true, false, not, if◌then◌else◌, List, Option, Some, None, ap, refl, sym, subst}
+-- The host of an interrupt IN endpoint below a hub, by whether it is in time: where it waits while a frame begins it isn't any more; at
+-- each transaction of its queue head it is in time where the world says so.
+use Rattle.std.proofs.Common.{◌≡◌, ℕ, ◌==◌, ◌%◌, Bool, true, false, not, if◌then◌else◌, List, Option, Some, None, ap, refl, sym, subst}
 use Rattle.std.proofs.Common.{◌∙◌}
 use Rattle.std.specs.Prelude.{◌&&◌, ◌||◌}
 use Rattle.std.proofs.lemmas.Bool.{and_parts, eqb-true, eq-eqb, false≢true}
@@ -13,7 +13,6 @@ use Rattle.hub_keys.specs.declared.key.Key.{Key}
 use Rattle.qh_qtd.specs.declared.queue_head.Qh.{Qh}
 use Rattle.bus_wire.specs.Bus.{Fixed, Wired}
 use Rattle.claims_base.specs.Controller.{opening_base}
-use Rattle.claims_report.specs.Streams.{has_stream}
 use Rattle.toggle_error.specs.declared.host.HostSide.{HostSide}
 use Rattle.hc_copy.specs.Planning.{pid_at, host_in}
 use Rattle.hc_core.specs.Controller.{frame_place}
@@ -25,7 +24,7 @@ use Rattle.law_structures.specs.lent_structures.Sound.{IsWorking, IsSoundQueue}
 use Rattle.law_structures.specs.lent_structures.Structures.{QueueHead, Structure, Structures, StructureSets}
 use Rattle.law_structures.proofs.lemmas.lent_structures.Altering.{found_queue}
 use Rattle.law_structures.proofs.lemmas.lent_structures.Reading.{head_read}
-use Rattle.law_ring.specs.Hand.{Copy, Hand, Empty, Copied, Settled, Stale, copied_queue}
+use Rattle.law_ring.specs.Hand.{Hand, Empty, copied_queue}
 use Rattle.law_ring.specs.Pipes.{IsIn}
 use Rattle.law_ring.specs.QueueParts.{IsQueuePart}
 use Rattle.law_ring.specs.Told.{Endpoint as Told, endpoint_of, HasEndpoint}
@@ -48,14 +47,14 @@ use Rattle.law_below_hubs.proofs.HostInBeside.{rested_is_timely, halted_is_timel
 use Rattle.law_world.specs.steps.Streaming.{transacts_by, wired}
 use Rattle.law_world.specs.memory.Mixed.{Standing, IsMixedAt}
 use Rattle.law_world.specs.memory.Steps.{IsEventOf, IsMixedControlled}
-use Rattle.law_microframes.specs.translators.Fresh.{IsStarting, key_started}
+use Rattle.law_microframes.specs.translators.Fresh.{key_started}
 use Rattle.law_microframes.specs.visits.WorldPipes.{EventOf}
 use Rattle.bus_world.specs.World.{World, controller_parts, controller_next}
 use Rattle.law_reports.specs.lines.Lined.{in_hand}
 use Rattle.law_reports.specs.pipes.Piped.{asked_as}
 use Rattle.law_reports.specs.pipes.below_hubs.BehindLaws.{WorldFindsNoneTold}
 use Rattle.law_reports.specs.pipes.below_hubs.Inward.{Inlet, is_late_host, may_be_late, renewed, host_waits, is_frame_begun, still_timely}
-use Rattle.law_reports.specs.pipes.below_hubs.InwardLaws.{IsCompletingLast, WorldAsksInTime, BeginsFrame, WaitsAt, IsLateBy, now, before}
+use Rattle.law_reports.specs.pipes.below_hubs.InwardLaws.{WorldAsksInTime, BeginsFrame, WaitsAt, IsLateBy, now, before}
 use Rattle.law_reports.proofs.lemmas.pipes.lemmas.below_hubs.FoundNone.{periodic_by}
 
 -- ---- a host that rests, or has halted, is in time
@@ -93,8 +92,8 @@ renew kind packets w i place timely known parts hand n x k =
       hub = k.hub;
       side = subst (λ (o : Option Structure). InSide packets (told_key kind Directions.In x) i place w host.toggle host.waiting
           (not host.halted) (timely || not (may_be_late hand n o)) known) (sym k.head)
-          (renew_side packets (told_key kind Directions.In x) i place w host.toggle timely known host.active host.waiting host.halted k.rests
-          k.side);
+          (renew_side packets (told_key kind Directions.In x) i place w host.toggle timely known host.active host.waiting host.halted
+          k.rests k.side);
     }
 
 -- ---- an event of the controller
@@ -126,9 +125,9 @@ module _ {fixed : Fixed} (s : Standing) (w : World) (a : IsEventOf fixed s w) (z
 
 -- ---- its transaction
 
-module _ (fixed : Fixed) (v : Inlet) (timely : ℕ → Bool) (s : Standing) (w : World) (mixed : IsMixedAt s w) (c : IsMixedControlled fixed s w)
-    (n : ℕ) (t : Told) (ins : IsIn (s.parts n)) (named : HasEndpoint s.parts n t) (below : (t.speed == 2) ≡ false)
-    (hub : IsAtHub (wired fixed w).bus.hubs t.hub t.port v.hub v.place) (its : t ≡ asked_as v.desc) where
+module _ (fixed : Fixed) (v : Inlet) (timely : ℕ → Bool) (s : Standing) (w : World) (mixed : IsMixedAt s w)
+    (c : IsMixedControlled fixed s w) (n : ℕ) (t : Told) (ins : IsIn (s.parts n)) (named : HasEndpoint s.parts n t)
+    (below : (t.speed == 2) ≡ false) (hub : IsAtHub (wired fixed w).bus.hubs t.hub t.port v.hub v.place) (its : t ≡ asked_as v.desc) where
   there : both s.descs s.parts n ≡ s.parts n
   there =
       let f = mixed.now.framed in
@@ -288,7 +287,7 @@ module _ (fixed : Fixed) (s : Standing) (w : World) (mixed : IsMixedAt s w) (n :
 
   module _ (a : IsEventOf fixed s w) (timely : ℕ → Bool) where
     frame_began : (y : EventOf fixed s w a) → is_frame_begun y ≡ true → BeginsFrame fixed w
-    frame_began (begun index allowed asked told) on = record { index = index; first = eqb-true (index % 8) 0 on; begins = asked.1 }
+    frame_began (begun index allowed asked _) on = record { index = index; first = eqb-true (index % 8) 0 on; begins = asked.1 }
     frame_began (moved y) on = absurd (false≢true on)
 
     pub late_by : (z : EventOf fixed s w a) → still_timely z (renewed s timely) n ≡ false → IsLateBy fixed w timely n

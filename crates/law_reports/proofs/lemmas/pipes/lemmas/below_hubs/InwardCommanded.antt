@@ -1,9 +1,8 @@
 -- Each command, accepted or refused, leaves a bulk or interrupt IN endpoint below a hub as it must stand.
-use Rattle.std.proofs.Common.{◌≡◌, ℕ, ◌*◌, Bool, true, List, ◌++◌, length, slice_get, Option, Some, None, Result, Ok, Err, ap, refl, sym, subst}
+use Rattle.std.proofs.Common.{◌≡◌, ℕ, ◌*◌, Bool, true, List, length, slice_get, Some, None, Result, Ok, Err, ap, refl, sym, subst}
 use Rattle.std.proofs.Common.{◌∙◌, ⊎_elim, inl}
 use Rattle.std.specs.Prelude.{◌⊎◌}
 use Rattle.std.specs.List.{concat}
-use Rattle.law_world.proofs.Common.{none_some}
 use Rattle.law_common.proofs.Lists.{push_which}
 use Rattle.law_microframes.proofs.Common.{idle_by}
 use Rattle.usb_base.specs.declared.commands.Cmd.{Cmd}
@@ -12,7 +11,6 @@ use Rattle.usb_base.specs.declared.packets.Way.TheVariants as ways
 use Rattle.usb_base.specs.declared.reports.OfferError.{OfferError}
 use Rattle.word_mem.specs.Memory.{Mem}
 use Rattle.bus_wire.specs.Bus.{Fixed}
-use Rattle.drv_table.specs.declared.content.Command.TheVariants as unfinished
 use Rattle.drv_table.specs.declared.content.Endpoint.{Endpoint}
 use Rattle.drv_table.specs.Accepting.{Offered}
 use Rattle.drv_table.specs.DriverContent.{DriverContent}
@@ -43,13 +41,15 @@ use Rattle.law_reports.proofs.lemmas.pipes.FollowedCommands.{was_by, refused_lef
 use Rattle.law_reports.proofs.lemmas.pipes.Names.{met_near}
 use Rattle.law_reports.proofs.lemmas.pipes.lemmas.below_hubs.InwardDriven.{in_begun}
 
-module _ (fixed : Fixed) (x : Sides) (o : Spots) (v : Inlet) (timely : ℕ → Bool) (s : Standing) (m : Lines) (h : Heads) (puts : ℕ → List ℕ) (w : World)
-    (k : IsPiped fixed x s m h w) (pays : Pays fixed x s m puts w) (b : IsBehind fixed o s m puts w) (i : IsInward fixed v timely s m w) where
+module _ (fixed : Fixed) (x : Sides) (o : Spots) (v : Inlet) (timely : ℕ → Bool) (s : Standing) (m : Lines) (h : Heads)
+    (puts : ℕ → List ℕ) (w : World) (k : IsPiped fixed x s m h w) (pays : Pays fixed x s m puts w) (b : IsBehind fixed o s m puts w)
+    (i : IsInward fixed v timely s m w) where
   abbrev Left : ℕ → ℕ → List ℕ → Type 0
   Left addr ep = Begins v
 
   abbrev Stands : ℕ → EpDesc → Type 0
-  Stands q c = IsInBehind v.desc.kind v.packets (wired fixed w) v.hub v.place (timely (32 * q)) (concat (m.acc (32 * q))) s.parts (in_hand s) (32 * q) (asked_as c)
+  Stands q c = IsInBehind v.desc.kind v.packets (wired fixed w) v.hub v.place (timely (32 * q)) (concat (m.acc (32 * q))) s.parts
+      (in_hand s) (32 * q) (asked_as c)
 
   -- the driver's content and memory change, and the same queue heads are met
   module _ (f : DriverContent) (mem : Mem) (new : IsPiped fixed x s m h (record w { driver = f; memory = mem }))

@@ -53,8 +53,9 @@ its_number v addr ep is =
     let both = and_parts (v.desc.name.addr == addr) (v.desc.name.num == ep) is in
     (eqb-true v.desc.name.addr addr both.0, eqb-true v.desc.name.num ep both.1)
 
-module _ (fixed : Fixed) (x : Sides) (o : Spots) (v : Inlet) (timely : ℕ → Bool) (s : Standing) (m : Lines) (h : Heads) (puts : ℕ → List ℕ) (w : World)
-    (k : IsPiped fixed x s m h w) (pays : Pays fixed x s m puts w) (b : IsBehind fixed o s m puts w) (i : IsInward fixed v timely s m w) where
+module _ (fixed : Fixed) (x : Sides) (o : Spots) (v : Inlet) (timely : ℕ → Bool) (s : Standing) (m : Lines) (h : Heads)
+    (puts : ℕ → List ℕ) (w : World) (k : IsPiped fixed x s m h w) (pays : Pays fixed x s m puts w) (b : IsBehind fixed o s m puts w)
+    (i : IsInward fixed v timely s m w) where
   -- ---- the endpoint
 
   module _ (e : ℕ) (y : Endpoint) (here : slice_get w.driver.endpoints e ≡ Some y) (way : y.desc.name.way ≡ ways.In)
@@ -130,7 +131,8 @@ module _ (fixed : Fixed) (x : Sides) (o : Spots) (v : Inlet) (timely : ℕ → B
         s.parts (in_hand s) (32 * y.queue) (asked_as y.desc) = i.met e y here way on is_met in
         let b_now : IsInBehind v.desc.kind v.packets (wired fixed w) v.hub v.place (renewed s timely (32 * y.queue))
         (concat (m.acc (32 * y.queue))) s.parts (in_hand s) (32 * y.queue) (asked_as y.desc) =
-        renew v.desc.kind v.packets (wired fixed w) v.hub v.place (timely n) (concat (m.acc n)) s.parts (in_hand s) n (asked_as y.desc) was in
+        renew v.desc.kind v.packets (wired fixed w) v.hub v.place (timely n) (concat (m.acc n)) s.parts (in_hand s) n (asked_as y.desc)
+        was in
         subst (λ (known : List ℕ). IsInBehind v.desc.kind v.packets (wired fixed new) v.hub v.place (later n) known after.parts
         (in_hand after) n (asked_as y.desc))
         (sym ((goes fixed x s m h w k).adds n))
@@ -164,7 +166,8 @@ module _ (fixed : Fixed) (x : Sides) (o : Spots) (v : Inlet) (timely : ℕ → B
           control_apart = λ f u there is_met its same also. none_ctl addr ep on f u there its same also;
           iso_apart = λ f u there iso its same also. true≢false (sym iso ∙ (unused f u there its (same ∙ n.0) (also ∙ n.1)).queue);
         })
-        v.desc.kind (in_stream v.desc i.claims) v.packets v.hub v.place false going on_time [] spares (i.fresh addr ep on unused going on_time)
+        v.desc.kind (in_stream v.desc i.claims) v.packets v.hub v.place false going on_time [] spares
+        (i.fresh addr ep on unused going on_time)
 
     -- ---- one that left
 
@@ -180,8 +183,9 @@ module _ (fixed : Fixed) (x : Sides) (o : Spots) (v : Inlet) (timely : ℕ → B
 
     -- ---- the whole
 
-    pub controlled_inward : IsInward fixed v (still_timely (z fixed x s m h w k) (renewed s timely)) (standing_then s w (c fixed x s m h w k).event) (record
-        { acc = (goes fixed x s m h w k).moved; reported = m.reported }) (controller_next fixed w)
+    pub controlled_inward : IsInward fixed v (still_timely (z fixed x s m h w k) (renewed s timely))
+        (standing_then s w (c fixed x s m h w k).event) (record { acc = (goes fixed x s m h w k).moved; reported = m.reported })
+        (controller_next fixed w)
     controlled_inward = record {
       claims = i.claims;
       inlets = i.inlets;

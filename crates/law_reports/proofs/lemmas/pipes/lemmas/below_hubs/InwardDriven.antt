@@ -73,8 +73,9 @@ in_ctl e = cc
 pub begins_less : (v : Inlet) (addr ep : ℕ) (bytes more : List ℕ) → IsPrefix bytes more → Begins v more → Begins v bytes
 begins_less v addr ep bytes more front all = begins_both bytes more (concat v.packets) front all
 
-module _ (fixed : Fixed) (x : Sides) (o : Spots) (v : Inlet) (timely : ℕ → Bool) (s : Standing) (m : Lines) (h : Heads) (puts : ℕ → List ℕ) (w : World)
-    (k : IsPiped fixed x s m h w) (pays : Pays fixed x s m puts w) (b : IsBehind fixed o s m puts w) (i : IsInward fixed v timely s m w) where
+module _ (fixed : Fixed) (x : Sides) (o : Spots) (v : Inlet) (timely : ℕ → Bool) (s : Standing) (m : Lines) (h : Heads)
+    (puts : ℕ → List ℕ) (w : World) (k : IsPiped fixed x s m h w) (pays : Pays fixed x s m puts w) (b : IsBehind fixed o s m puts w)
+    (i : IsInward fixed v timely s m w) where
   abbrev new : World
   new = driver_next w
 
@@ -115,7 +116,8 @@ module _ (fixed : Fixed) (x : Sides) (o : Spots) (v : Inlet) (timely : ℕ → B
       (λ addr ep. Unmoved v (wired fixed w)) i.fresh
 
   abbrev Stands : Standing → List ℕ → ℕ → EpDesc → Type 0
-  Stands t known q c = IsInBehind v.desc.kind v.packets (wired fixed w) v.hub v.place (timely (32 * q)) known t.parts (in_hand t) (32 * q) (asked_as c)
+  Stands t known q c = IsInBehind v.desc.kind v.packets (wired fixed w) v.hub v.place (timely (32 * q)) known t.parts (in_hand t)
+      (32 * q) (asked_as c)
 
   -- ---- an endpoint that was met stands as it must
 
@@ -144,8 +146,8 @@ module _ (fixed : Fixed) (x : Sides) (o : Spots) (v : Inlet) (timely : ℕ → B
 
     its_then : Stands t (concat (m.acc (32 * u.endpoint.queue))) u.endpoint.queue u.endpoint.desc
     its_then =
-        step_keeps_in_behind v.desc.kind v.packets (λ addr ep. false) (λ addr ep. false) (λ j. j == n) (λ j. false) s.ends s t w new (wired fixed w)
-        v.hub v.place (timely n) (concat (m.acc n)) n (asked_as y.desc) k.mixed step (by_way s w k.mixed n is_in)
+        step_keeps_in_behind v.desc.kind v.packets (λ addr ep. false) (λ addr ep. false) (λ j. j == n) (λ j. false) s.ends s t w new
+        (wired fixed w) v.hub v.place (timely n) (concat (m.acc n)) n (asked_as y.desc) k.mixed step (by_way s w k.mixed n is_in)
         (publishes_start w.driver b.first) (eq-eqb n n refl) (ap s.near same ∙ near) (ap t.near same ∙ near_then)
         (i.met e y u.here its_way its_on is_met)
 

@@ -1,4 +1,5 @@
--- A bulk or interrupt IN endpoint below a hub stands as it must at each event, and at each moment of each script before which its hub was spared.
+-- A bulk or interrupt IN endpoint below a hub stands as it must at each event, and at each moment of each script before which its hub was
+-- spared.
 use Rattle.std.proofs.Common.{ℕ, ◌*◌, Bool, List}
 use Rattle.std.specs.List.{concat}
 use Rattle.bus_wire.specs.Bus.{Fixed}
@@ -75,8 +76,9 @@ controller_keeps_inward fixed x o v timely puts w spared finds asks k = record {
       (z fixed x k.standing k.lines k.heads w k.piped) off;
 }
 
-module _ (fixed : Fixed) (x : Sides) (o : Spots) (v : Inlet) (timely : ℕ → Bool) (s : Standing) (m : Lines) (h : Heads) (puts : ℕ → List ℕ) (w : World)
-    (k : IsPiped fixed x s m h w) (pays : Pays fixed x s m puts w) (b : IsBehind fixed o s m puts w) (i : IsInward fixed v timely s m w) where
+module _ (fixed : Fixed) (x : Sides) (o : Spots) (v : Inlet) (timely : ℕ → Bool) (s : Standing) (m : Lines) (h : Heads)
+    (puts : ℕ → List ℕ) (w : World) (k : IsPiped fixed x s m h w) (pays : Pays fixed x s m puts w) (b : IsBehind fixed o s m puts w)
+    (i : IsInward fixed v timely s m w) where
   by_other : (t : Standing) (step : QueueStep s w (driver_next w) t) → IsNoOpening step → IsMixedAt t (driver_next w)
       → IsTellingNext s m w (driver_next w) t step → HasInward fixed x o v timely puts (driver_next w)
   by_other t step other mixed next = record {
@@ -125,5 +127,6 @@ command_keeps_inward fixed x o v timely puts w line cmd fits declares spotted on
   piped = commanded_piped fixed x k.standing k.lines k.heads w k.piped line cmd fits declares room;
   pays = commanded_pays fixed x k.standing k.lines k.heads puts w k.piped k.pays line cmd fits declares bytes room;
   behind = commanded_behind fixed x o k.standing k.lines k.heads puts w k.piped k.pays k.behind line cmd fits declares spotted room;
-  inward = commanded_inward fixed x o v timely k.standing k.lines k.heads puts w k.piped k.pays k.behind k.inward line cmd fits declares one room;
+  inward = commanded_inward fixed x o v timely k.standing k.lines k.heads puts w k.piped k.pays k.behind k.inward line cmd fits declares
+      one room;
 }

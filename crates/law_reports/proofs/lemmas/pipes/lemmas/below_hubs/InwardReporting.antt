@@ -1,4 +1,5 @@
--- The report of a world tells the streams of bulk and interrupt IN endpoints below hubs, at each moment before which their hubs were spared.
+-- The report of a world tells the streams of bulk and interrupt IN endpoints below hubs, at each moment before which their hubs were
+-- spared.
 use Rattle.std.proofs.Common.{◌≡◌, ◌≢◌, ℕ, ◌*◌, ◌<◌, ◌==◌, Bool, true, false, not, List, [], ◌∷◌, ◌++◌, length, filter, slice_get}
 use Rattle.std.proofs.Common.{Option, Some, None, cond, ap, refl, sym, subst, ◌∙◌, ⊎_elim, if◌then◌else◌}
 use Rattle.std.specs.Prelude.{◌&&◌, nat_lt, unwrap_or}
@@ -19,7 +20,7 @@ use Rattle.script_types.specs.declared.scripts.Script.{Script}
 use Rattle.script_text.specs.Faults.{Spells}
 use Rattle.claims_base.specs.Prefix.{IsPrefix}
 use Rattle.hub_class.specs.HubContent.{HubContent}
-use Rattle.bus_wire.specs.Bus.{fixed_of, opening_bus}
+use Rattle.bus_wire.specs.Bus.{fixed_of}
 use Rattle.claims_report.specs.Reports.{WholeReport}
 use Rattle.claims_report.specs.Streams.{opened, stream_by, told, told_in, has_stream, AreBytesRight, IsRightStream}
 use Rattle.claims_world.specs.Ends.{IsEndedOnce}
@@ -142,8 +143,8 @@ module _ (s : Script) (w : World) (puts : ℕ → List ℕ) (x : EpDesc) (is : I
     there_begins : IsThere (queued w.driver) (queued_endpoint k.endpoint)
         → Begins (inlet_of s x) (concat (a.lines.acc (32 * k.endpoint.queue)))
     there_begins there =
-        in_begun (fixed_of s) (sides_of s) (spots_of s) (inlet_of s x) timely a.standing a.lines a.heads puts w a.piped a.pays a.behind a.inward
-        k.number y k.here its_way on there
+        in_begun (fixed_of s) (sides_of s) (spots_of s) (inlet_of s x) timely a.standing a.lines a.heads puts w a.piped a.pays a.behind
+        a.inward k.number y k.here its_way on there
 
     by_told : IsTold w h k.number k.endpoint → Begins (inlet_of s x) (h.telling.told.told k.number)
     unfolding h

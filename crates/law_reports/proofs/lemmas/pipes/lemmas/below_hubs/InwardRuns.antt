@@ -172,7 +172,8 @@ module _ (s : Script) (v : Inlet) (k : ℕ) (at : IsInwardAt s v k) where
       timely = timely_now;
       inward = now_inward;
       late = λ n off same. still_late n off;
-      room = rest_room w.driver.room (reserve_left rest) (subst (λ r. HasRoomFor w.driver.room (with_room r (reserve_left rest))) none room);
+      room = rest_room w.driver.room (reserve_left rest)
+          (subst (λ r. HasRoomFor w.driver.room (with_room r (reserve_left rest))) none room);
       fits = fits.1;
     }
 
@@ -199,7 +200,8 @@ module _ (s : Script) (v : Inlet) (k : ℕ) (at : IsInwardAt s v k) where
           fits = (fit, fits.1);
         }
         by events.C =
-            let z = controller_keeps_inward (fixed_of s) (sides_of s) (spots_of s) v at.timely (puts_at s k) w spared finds asks at.inward in
+            let z = controller_keeps_inward (fixed_of s) (sides_of s) (spots_of s) v at.timely (puts_at s k) w spared finds asks
+            at.inward in
             record {
               timely = z.later;
               inward = z.inward;
@@ -215,7 +217,8 @@ module _ (s : Script) (v : Inlet) (k : ℕ) (at : IsInwardAt s v k) where
 
     command_by : (n : ℕ) (cmd : Cmd) (rest : List Left) → HasRoomFor (moment s k).world.driver.room (reserve_left (Command n cmd ∷ rest))
         → AllByRecursion (FitsLeft (CanBeInward (sides_of s) (spots_of s) v)) (Command n cmd ∷ rest)
-        → Next (record { world = commanded (moment s k).world n cmd; orders = rest }) (puts_then (moment s k).world.driver cmd (puts_at s k))
+        → Next (record { world = commanded (moment s k).world n cmd; orders = rest })
+        (puts_then (moment s k).world.driver cmd (puts_at s k))
     unfolding reserve_left
     command_by n cmd rest room fits =
         let c = fits.0.1 in

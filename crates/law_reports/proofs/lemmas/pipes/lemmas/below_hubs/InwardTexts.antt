@@ -1,5 +1,5 @@
--- Each bulk or interrupt IN endpoint that a text opens below a hub of it is the only one of its name, and before the first line nothing of it is on its
--- way.
+-- Each bulk or interrupt IN endpoint that a text opens below a hub of it is the only one of its name, and before the first line nothing
+-- of it is on its way.
 use Rattle.std.proofs.Common.{◌≡◌, ◌≢◌, ℕ, zero, suc, Bool, true, false, List, [], ◌∷◌, Option, Some, None, refl}
 use Rattle.std.proofs.Common.{sym, ap, subst, ◌∙◌, inl, inr}
 use Rattle.std.specs.Prelude.{◌==◌, ◌&&◌, not, find, slice_get}

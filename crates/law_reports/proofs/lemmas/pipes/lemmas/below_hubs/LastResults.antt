@@ -1,7 +1,7 @@
 -- Where the walk of the frames comes to the last complete-split of a frame, of an interrupt IN endpoint below a hub, the result of what the
 -- hub's translator has of it is there (EHCI 1.0, 4.12.2.1; USB 2.0, 11.18.4).
-use Rattle.std.proofs.Common.{◌≡◌, ◌≢◌, ℕ, zero, suc, ◌*◌, ◌+◌, ◌-◌, ◌/◌, ◌%◌, ◌^◌, ◌≤◌, ◌<◌, ◌==◌, Bool, true, false, List, [], ◌∷◌, slice_get, Option, Some, None}
-use Rattle.std.proofs.Common.{ap, refl, sym, subst, ◌∙◌, arith, if◌then◌else◌}
+use Rattle.std.proofs.Common.{◌≡◌, ◌≢◌, ℕ, suc, ◌*◌, ◌+◌, ◌/◌, ◌%◌, ◌^◌, ◌≤◌, ◌<◌, ◌==◌, true, false, List, slice_get, Some, None}
+use Rattle.std.proofs.Common.{ap, refl, sym, subst, ◌∙◌, arith}
 use Rattle.std.specs.Prelude.{◌&&◌}
 use Rattle.std.specs.List.{find}
 use Rattle.std.proofs.lemmas.Bool.{and_parts, eqb-true, false≢true}
@@ -47,25 +47,22 @@ use Rattle.law_driver.specs.queued_drivers.Queued.{IsOfWay}
 use Rattle.law_driver.proofs.lemmas.planned_endpoints.Laws.{what_counts_is_an_endpoint}
 use Rattle.law_frames.specs.Frame.{IsCopiedQueue, IsInFrame, IsFrameWalk}
 use Rattle.law_frames.specs.FrameHand.{FrameHand, OfQueue, OfSettled, frame_held}
-use Rattle.law_frames.specs.Met.{AQueue}
 use Rattle.law_ring.specs.Hand.{Copy, copied_queue}
 use Rattle.law_structures.proofs.lemmas.lent_structures.Reading.{head_read}
 use Rattle.law_descriptors.specs.Both.{both}
 use Rattle.law_descriptors.specs.Meeting.{met}
 use Rattle.law_scripts.proofs.lemmas.script_bytes.Texts.{a_text_spells_bytes}
 use Rattle.law_below_hubs.specs.HostEvents.{told_key}
-use Rattle.law_below_hubs.specs.HostIns.{IsResult, HasResult}
+use Rattle.law_below_hubs.specs.HostIns.{IsResult}
 use Rattle.law_world.specs.memory.Mixed.{Standing, IsMixedAt}
-use Rattle.law_world.specs.steps.Streaming.{wired}
 use Rattle.law_world.proofs.lemmas.memory.FittingTexts.{texts_open_fitting}
 use Rattle.law_world.proofs.lemmas.memory.Texts.{texts_fit}
-use Rattle.law_microframes.specs.due.repeats.Hearing.{IsHeardOn}
-use Rattle.law_microframes.specs.time.DataQueues.{pid_of, way_of, ReadsData}
+use Rattle.law_microframes.specs.time.DataQueues.{pid_of, way_of}
 use Rattle.law_microframes.specs.translators.Fresh.{key_started}
 use Rattle.law_microframes.specs.translators.Keeping.{key_for}
 use Rattle.law_microframes.specs.translators.Results.{Entry, has_key}
 use Rattle.law_microframes.specs.translators.Told.{IsToldByLast}
-use Rattle.law_microframes.specs.visits.Belonging.{HaveFields, HeadsHaveFields, IsQueueAt, placed_of}
+use Rattle.law_microframes.specs.visits.Belonging.{HaveFields, IsQueueAt}
 use Rattle.law_microframes.proofs.lemmas.due.lemmas.repeats.AskedHeads.{HasPlace, places_read, low_field}
 use Rattle.law_microframes.proofs.lemmas.due.lemmas.repeats.Endpoints.{texts_stand}
 use Rattle.law_microframes.proofs.lemmas.time.DataHeads.{scripts_read_data}
@@ -78,7 +75,6 @@ use Rattle.law_microframes.proofs.lemmas.visits.VisitTexts.{lines_fit}
 use Rattle.law_reports.specs.lines.Lined.{in_hand}
 use Rattle.law_reports.specs.pipes.Declared.{sides_of}
 use Rattle.law_reports.specs.pipes.Piped.{asked_as, HasFollowed}
-use Rattle.law_reports.specs.pipes.below_hubs.Inward.{Inlet}
 use Rattle.law_reports.specs.pipes.below_hubs.InwardLaws.{IsCompletingLast, TextsHaveResults}
 use Rattle.law_reports.proofs.lemmas.due_at_begin.SplitHeads.{IsHeadOf, its_fields}
 use Rattle.law_reports.proofs.lemmas.lines.IsoGoing.{told_apart}
@@ -286,7 +282,8 @@ module _ (text : List ℕ) (s : Script) (spelled : Spells text s) (k : ℕ) (h :
           number = told_apart w.driver (in_hand st) st.parts f.lines.reported f.followed.piped.telling.told o.number its.belongs.number
               o.endpoint y o.here its.belongs.here
               (name_is o.endpoint.desc.name y.desc.name
-              (ap (λ (n : EpName). n.addr) name ∙ eqb-true o.desc.name.addr asked.addr three.0 ∙ ap (λ (q : Qh). q.addr) head_is ∙ head.addr)
+              (ap (λ (n : EpName). n.addr) name ∙ eqb-true o.desc.name.addr asked.addr three.0 ∙ ap (λ (q : Qh). q.addr) head_is
+              ∙ head.addr)
               (ap (λ (n : EpName). n.num) name ∙ eqb-true o.desc.name.num asked.ep three.1 ∙ ap (λ (q : Qh). q.ep) head_is ∙ head.ep)
               (way ∙ sym way_is));
         }

@@ -19,7 +19,7 @@ use Rattle.hub_ports.specs.declared.rows.ClassRequest.TheVariants as class
 use Rattle.hub_ports.specs.declared.rows.HubRequest.{HubRequest}
 use Rattle.hub_ports.specs.declared.rows.HubRequest.TheVariants as hub_requests
 use Rattle.hub_ports.specs.declared.rows.PortChange.{PortChange}
-use Rattle.hub_ports.specs.Requests.{fields_of, class_request, length_of, set_feature, clear_feature, change_at, at_port}
+use Rattle.hub_ports.specs.Requests.{fields_of, class_request, set_feature, clear_feature, change_at, at_port}
 use Rattle.hub_ports.specs.Requests.{request_by, request_with}
 use Rattle.multi_tt.specs.Translators.{Translators}
 use Rattle.hub_class.specs.HubContent.{HubContent}
@@ -38,14 +38,12 @@ use Rattle.bus_wire.specs.Bus.{Bus, Wired, Fixed, hears, hears_plain, asked_of, 
 use Rattle.claims_world.specs.BelowStreams.{clears_translator, heard_clear}
 use Rattle.law_devices.proofs.Asking.{who_place}
 use Rattle.law_devices.proofs.Places.{set_here, set_beside}
-use Rattle.law_translated.specs.Lift.{Way, Buffered}
 use Rattle.law_translated.specs.KeySlots.{KeySlot}
-use Rattle.law_translated.specs.KeyHubs.{HaveNone, HasAt}
+use Rattle.law_translated.specs.KeyHubs.{HasAt}
 use Rattle.law_below_hubs.specs.HostOuts.{its_way}
 use Rattle.law_below_hubs.specs.HubsKeys.{HubsHave}
 use Rattle.law_below_hubs.specs.PlainAsks.{PlainLeaves}
 use Rattle.law_below_hubs.proofs.PlainAsks.{plain_asks_by_key}
-use Rattle.law_reports.specs.pipes.below_hubs.Inward.{Inlet, IsSpared}
 use Rattle.law_reports.specs.pipes.below_hubs.InwardLaws.{SparedHubsKeepKeys}
 
 -- ---- a request
