@@ -13,7 +13,7 @@ ghost use Rattle.law_ring.specs.Hand.{Hand};
 ghost use Rattle.claims_base.specs.Controller.{Base};
 ghost use Rattle.law_ring.specs.Effects.{AreBytesHeard};
 ghost use Rattle.law_controller.specs.controlled_streams.Control.{IsOn, IsControlled};
-ghost use Rattle.law_devices.specs.ring_requests.Windows.{Queue, Lines, AreSent, AreWindows};
+ghost use Rattle.law_devices.specs.ring_requests.Windows.{Queue, Lines, AreSent, AreWindows, AreHigh};
 ghost use Rattle.law_devices.specs.control_requests.Events.{ControlWindowsGoOn};
 ghost use Rattle.law_devices.specs.control_requests.Rests.{ControlKeepsRest};
 
@@ -21,11 +21,13 @@ use usb_base::Wire;
 
 /// Each event of the controller makes at most one transaction of one request under way, or is the advance of one queue head from a request that is done
 /// to the next one; all windows stand as they must afterwards, and the requests behind a halted one are never begun.
+/// The queue heads are of high speed.
 pub fn an_event_keeps_the_windows<W: Wire>()
     ensures { (device : W → ℕ → ℕ → Option Device) (base : Base) (member windows : ℕ → Bool) (sent : ℕ → Queue) (lines : ℕ → Lines) (parts : StructureSets) (hand : Hand)
         (c : Content) (wire : W) (new : Content) (after : W) → AreSent member windows sent → IsControlBus W.transacts device → KeepsDevices W.begins device
         → IsControlled base member parts hand c → IsOn base → AreWindows device member windows sent lines parts hand wire
-        → AreBytesHeard W.transacts wire after → HasRow W.begins W.transacts (microframe_row c.registers c.control) c wire new after
+        → AreHigh windows parts → AreBytesHeard W.transacts wire after
+        → HasRow W.begins W.transacts (microframe_row c.registers c.control) c wire new after
         → ControlWindowsGoOn W.begins W.transacts device base member windows sent lines parts hand wire after new }
 {}
 

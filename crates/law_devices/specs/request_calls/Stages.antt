@@ -1,6 +1,6 @@
 -- A queue head that works on a stage of a request, and one transaction of it (EHCI 1.0, 3.6 and 4.10; USB 2.0, 8.5.3).
---     IsEndpoint e q             the queue head is that of a high-speed control endpoint, whose qTDs bring their toggles (3.6.2, DTC)
---     WorksOn e r q h            its overlay works on the qTD of the host's stage
+--     IsEndpoint e q             the queue head is that of a control endpoint of any speed, whose qTDs bring their toggles (3.6.2, DTC)
+--     WorksOn e r q h            it is of high speed, and its overlay works on the qTD of the host's stage
 --     AreGiven ..                these bytes go out with it: those of the stage, as many as the transaction carries
 --     moved_of code ..           the bytes that a transaction moved: received with an IN, else sent and acknowledged
 --     IsTransaction ..           it is one transaction of the request
@@ -22,13 +22,13 @@ use Rattle.law_devices.specs.request_calls.Bus.{device_of}
 
 pub record IsEndpoint (e : Endpoint) (q : Qh) : Type 0 where
   pub toggles : q.dtc ≡ true
-  pub high : q.eps ≡ 2
   pub address : q.addr ≡ e.addr
   pub number : q.ep ≡ e.num
   pub packets : q.max ≡ e.max
 
 pub record WorksOn (e : Endpoint) (r : Request) (q : Qh) (h : Host) : Type 0 where
   pub endpoint : IsEndpoint e q
+  pub high : q.eps ≡ 2
   pub pid : pid_at q.token.pid ≡ token_at r h.stage
   pub side : host_in q ≡ h.side
 

@@ -13,6 +13,7 @@
 --     IsActedOnce ..             the device acted on it exactly once, and all its data are told
 --     AreSent ..                 these queue heads have requests, each of an endpoint of its own
 --     AreWindows ..              the queue of each of them is so, and no other queue head asks one of the endpoints
+--     AreHigh windows parts      these queue heads are of high speed (EHCI 1.0, 3.6.2)
 --     Step, stepped              one transaction of one of the requests, or the advance of one of the queue heads to its next request
 --     WindowsGoOn ..             an event of the walk: at most one such step, and none of an endpoint whose request halted
 use Rattle.std.specs.Prelude.{◌≡◌, ◌≢◌, ℕ, suc, ◌<◌, ◌≤◌, Bool, true, false, ◌&&◌, ◌==◌, ◌⊎◌, List, [], ◌∷◌, Option, Some, None, if◌then◌else◌}
@@ -164,6 +165,9 @@ pub record IsElsewhere (windows : ℕ → Bool) (sent : ℕ → Queue) (parts : 
 pub record AreWindows {W : Type 0} (device : W → ℕ → ℕ → Option Device) (member windows : ℕ → Bool) (sent : ℕ → Queue) (lines : ℕ → Lines) (parts : StructureSets) (hand : Hand) (wire : W) : Type 0 where
   pub each : (n : ℕ) → windows n ≡ true → IsQueue (sent n) (lines n) hand parts n (device wire (sent n).endpoint.addr (sent n).endpoint.num)
   pub others : (n : ℕ) → member n ≡ true → windows n ≡ false → IsElsewhere windows sent parts n
+
+abbrev pub AreHigh : (ℕ → Bool) → StructureSets → Type 0
+AreHigh windows parts = (n : ℕ) (q : Qh) → windows n ≡ true → parts n n ≡ Some (QueueHead q) → q.eps ≡ 2
 
 -- ---- an event
 

@@ -9,7 +9,7 @@ ghost use Rattle.law_request.specs.Line.{line_at};
 ghost use Rattle.law_request.specs.Windows.{windows, counted_in, IsRight};
 ghost use Rattle.claims_report.specs.ControlSides.{Device};
 ghost use Rattle.law_devices.specs.request_calls.Bus.{device_of, IsControlBus};
-ghost use Rattle.law_devices.specs.ring_requests.Windows.{Sent, Queue, sent_at, Lines, lines_at, IsWindow, IsLaid, HasEnded, IsActedOnce, IsQueue, AreLaid, AreSent, AreWindows, Step, stepped, stage_of, HaltedStay, WindowsGoOn, Progress, progressed};
+ghost use Rattle.law_devices.specs.ring_requests.Windows.{Sent, Queue, sent_at, Lines, lines_at, IsWindow, IsLaid, HasEnded, IsActedOnce, IsQueue, AreLaid, AreSent, AreWindows, AreHigh, Step, stepped, stage_of, HaltedStay, WindowsGoOn, Progress, progressed};
 ghost use Rattle.law_devices.specs.ring_requests.Runs.{first_of, IsRun, turns_of};
 ghost use Rattle.usb_base.specs.declared.endpoints.EndCause.{EndCause};
 ghost use Rattle.law_request.specs.Host.{Halted};
@@ -20,11 +20,11 @@ use usb_base::Wire;
 
 /// Each event of the walk makes at most one transaction of one request under way, or is the advance of one queue head from a request that is done to
 /// the next one, whose window it opens; all windows stand as they must afterwards. Where the request under way of an endpoint halted, no event is a
-/// step of that endpoint: the requests behind it are never begun.
+/// step of that endpoint: the requests behind it are never begun. The queue heads are of high speed.
 pub fn each_event_keeps_the_windows<W: Wire>()
     ensures { (device : W → ℕ → ℕ → Option Device) (base : Base) (member windows : ℕ → Bool) (sent : ℕ → Queue) (lines : ℕ → Lines) (parts : StructureSets) (hand : Hand)
         (p : WalkPlace) (wire : W) (new : WalkPlace) (after : W) → AreSent member windows sent → IsControlBus W.transacts device → IsRing base member parts hand p
-        → AreWindows device member windows sent lines parts hand wire → AreBytesHeard W.transacts wire after → Leads W.transacts (event_row p) (at_event p) wire new after
+        → AreWindows device member windows sent lines parts hand wire → AreHigh windows parts → AreBytesHeard W.transacts wire after → Leads W.transacts (event_row p) (at_event p) wire new after
         → WindowsGoOn W.transacts device base member windows sent lines parts hand wire after new (step_of (event_row p) (at_event p)) }
 {}
 

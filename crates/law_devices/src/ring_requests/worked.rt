@@ -1,5 +1,5 @@
 //! Worked requests, which the check computes.
-ghost use Rattle.std.specs.Prelude.{◌≡◌, [], ◌∷◌, ◌++◌};
+ghost use Rattle.std.specs.Prelude.{◌≡◌, ◌==◌, [], ◌∷◌, ◌++◌};
 ghost use Rattle.usb_base.specs.declared.endpoints.EndCause.TheVariants as Ends;
 ghost use Rattle.hc_copy.specs.Overlay.{advanced};
 ghost use Rattle.law_request.specs.Host.{Setup, Done, Halted};
@@ -7,11 +7,13 @@ ghost use Rattle.law_request.specs.Samples.{told, tells, good, descriptor, token
 ghost use Rattle.law_ring.specs.Hand.{Empty};
 ghost use Rattle.law_devices.specs.ring_requests.Samples.{queue, parts, request, both_parts as BothParts, requests, after, first_done as FirstDone, then_begun as ThenBegun};
 ghost use Rattle.law_devices.specs.ring_requests.Samples.{second_setup as SecondSetup, done_queue as DoneQueue, done_parts as DoneParts, next_queue as NextQueue, next_parts as NextParts, device_in as DeviceIn, is_only as IsOnly, is_both as IsBoth};
-ghost use Rattle.law_devices.specs.ring_requests.Windows.{IsLaid, AreLaid, IsQueue, AreSent, Transaction, Advance};
+ghost use Rattle.law_devices.specs.ring_requests.Windows.{IsLaid, AreLaid, IsQueue, AreSent, AreHigh, Transaction, Advance};
 
 /// A device descriptor's request stands in memory as a SETUP, a data and a status qTD, before its first transaction.
+/// Its queue head is of high speed.
 pub fn a_descriptor_is_asked_for()
-    ensures { IsLaid request Empty parts 32 queue }
+    ensures laid { IsLaid request Empty parts 32 queue }
+    ensures high { AreHigh (λ n. n == 32) parts }
 {}
 
 /// The request of a configuration descriptor stands behind it.

@@ -1,6 +1,6 @@
 -- The requests of control endpoints, of all of a world or of some (EHCI 1.0, 3.5 and 4.10; USB 2.0, 8.5.3): the queue of each one of these that the walk may meet,
 -- what the run recorded of its requests, what the lines tell of them, and what its device counts.
---     Sides                      what a script has for these control endpoints: which they are, the devices' sides before they are opened, each endpoint with its
+--     Sides                      what a script has for these control endpoints: which they are, and at which speeds, the devices' sides before they are opened, each endpoint with its
 --                                replies, and the bytes of the data of each request
 --     IsGiven g x                the device of a control endpoint is so, and has had no request
 --     Asking                     where the queue of each queue head stands, and which transfers its requests are
@@ -22,6 +22,7 @@ use Rattle.std.specs.Prelude.{◌≡◌, ℕ, zero, suc, ◌-◌, ◌*◌, ◌�
 use Rattle.usb_base.specs.declared.endpoints.EndCause.{EndCause}
 use Rattle.usb_base.specs.declared.endpoints.EpDesc.{EpDesc}
 use Rattle.usb_base.specs.declared.endpoints.EpName.{EpName}
+use Rattle.usb_base.specs.declared.packets.Speed.{Speed}
 use Rattle.word_mem.specs.Memory.{Mem}
 use Rattle.qh_qtd.specs.declared.qtd.Qtd.{Qtd}
 use Rattle.qh_qtd.specs.Qtd.{qtd_words, IsQtdInRange}
@@ -68,6 +69,7 @@ pub record Sides : Type 0 where
   -- which endpoints these are: control endpoints
   pub asks : EpDesc → Bool
   pub controls : (x : EpDesc) → asks x ≡ true → is_control x.kind ≡ true
+  pub speeds : Speed → Bool
   pub first : ℕ → ℕ → Option Device
   pub endpoint : EpDesc → Endpoint
   pub whole : EpName → Request → List ℕ

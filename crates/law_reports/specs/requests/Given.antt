@@ -23,7 +23,7 @@ its_kind true b on = refl
 its_kind false b on = on
 
 abbrev pub sides_of : Script → Sides
-sides_of s = record { asks = is_of_device s; controls = λ x on. its_kind (is_control x.kind) (not (is_of_hub s x.name.addr)) on; first = control_of (opening_wired s); endpoint = endpoint_of s; whole = data_of s }
+sides_of s = record { asks = is_of_device s; controls = λ x on. its_kind (is_control x.kind) (not (is_of_hub s x.name.addr)) on; speeds = λ speed. true; first = control_of (opening_wired s); endpoint = endpoint_of s; whole = data_of s }
 
 abbrev pub GivesOpened : Sides → Cmd → Type 0
 GivesOpened g (commands.OpenEp x) = g.asks x ≡ true → IsGiven g x

@@ -7,6 +7,7 @@
 --     IsSuited g x                the endpoint has a name of its kind, stands behind a hub where it isn't of high speed, and is given as
 --     the script has it, where its
 --                                 requests are asked of
+--     AsksHigh g                  these requests are asked of endpoints at high speed alone
 --     AreSuited g d               so are all endpoints of a driver
 --     SuitsCommand g cmd          so is the endpoint that the command opens, if any; and the request that it makes, if any, is whole
 --     HasHighAsks g fixed x v asks w
@@ -15,6 +16,7 @@ use Rattle.std.specs.Prelude.{◌≡◌, ℕ, ◌*◌, true, false, not, [], sli
 use Rattle.usb_base.specs.declared.commands.Cmd.{Cmd}
 use Rattle.usb_base.specs.declared.commands.Cmd.TheVariants as commands
 use Rattle.usb_base.specs.declared.endpoints.EpDesc.{EpDesc}
+use Rattle.usb_base.specs.declared.packets.Speed.{Speed}
 use Rattle.bus_wire.specs.Bus.{Fixed}
 use Rattle.claims_report.specs.Requests.{Request}
 use Rattle.drv_table.specs.declared.content.Endpoint.{Endpoint}
@@ -50,8 +52,12 @@ told_streams s = record { stream = λ addr ep. false; packets = λ addr ep. []; 
 pub record IsSuited (g : Sides) (x : EpDesc) : Type 0 where
   pub name : IsNameOf x.kind x.name
   pub below : is_some x.hub ≡ not (is_high x.speed)
-  pub high : g.asks (queued_desc x) ≡ true → is_high x.speed ≡ true
+  pub speed : g.asks (queued_desc x) ≡ true → g.speeds x.speed ≡ true
   pub given : g.asks (queued_desc x) ≡ true → IsGiven g (queued_desc x)
+
+-- those whose requests are asked of are of high speed
+abbrev pub AsksHigh : Sides → Type 0
+AsksHigh g = (speed : Speed) → g.speeds speed ≡ true → is_high speed ≡ true
 
 abbrev pub AreSuited : Sides → DriverContent → Type 0
 AreSuited g d = (e : ℕ) (x : Endpoint) → slice_get d.endpoints e ≡ Some x → IsSuited g x.desc

@@ -17,6 +17,7 @@ use Rattle.usb_base.specs.declared.packets.Way.TheVariants as ways
 use Rattle.script_types.specs.declared.scripts.Line.{Line}
 use Rattle.script_types.specs.declared.scripts.Line.TheVariants as lines
 use Rattle.script_types.specs.declared.scripts.Script.{Script}
+use Rattle.drv_table.specs.Words.{is_high}
 use Rattle.script_text.specs.Faults.{Spells}
 use Rattle.law_devices.specs.declared_controls.Samples.{zero, reading, beside_bulk, zero_text}
 use Rattle.law_reports.specs.requests.Asking.{Sides}
@@ -30,6 +31,7 @@ abbrev pub high_sides_of : Script → Sides
 high_sides_of s = record {
   asks = is_high_device s;
   controls = λ x on. (sides_of s).controls x (its_kind (is_of_device s x) (not (is_some x.hub)) on);
+  speeds = is_high;
   first = (sides_of s).first;
   endpoint = (sides_of s).endpoint;
   whole = (sides_of s).whole;

@@ -24,7 +24,7 @@ use Rattle.law_reports.specs.pipes.Declared.{Sides as Pipes, sides_of}
 use Rattle.law_reports.specs.pipes.PipedLaws.{OpensDeclared}
 use Rattle.law_reports.specs.requests.Asking.{Sides}
 use Rattle.law_reports.specs.requests.AskingLaws.{IsFirst}
-use Rattle.law_reports.specs.requests.HighAsking.{SuitsCommand, HasHighAsks}
+use Rattle.law_reports.specs.requests.HighAsking.{AsksHigh, SuitsCommand, HasHighAsks}
 use Rattle.law_reports.specs.requests.HighGiven.{high_sides_of}
 
 abbrev pub NewWorldHighAsks : Type 0
@@ -37,7 +37,7 @@ DriverKeepsHighAsks = (g : Sides) (fixed : Fixed) (x : Pipes) (v : Windows) (ask
     → HasHighAsks g fixed x v asks (driver_next w)
 
 abbrev pub ControllerKeepsHighAsks : Type 0
-ControllerKeepsHighAsks = (g : Sides) (fixed : Fixed) (x : Pipes) (v : Windows) (asks : ℕ → Request) (w : World)
+ControllerKeepsHighAsks = (g : Sides) (fixed : Fixed) (x : Pipes) (v : Windows) (asks : ℕ → Request) (w : World) → AsksHigh g
     → HasHighAsks g fixed x v asks w
     → HasHighAsks g fixed x (after_event fixed w v) asks (controller_next fixed w)
 

@@ -2,7 +2,7 @@
 --     line_after, course_after   the windows and the queue of a queue head after a step
 --     CoursesGoOn ..             after the event all queues stand as they must: it is one transaction of the request under way of one of them, or the advance of one
 --                                queue head to its next request, or no step of any; it asks nothing of a queue at rest
---     EventKeepsCourses          the law
+--     EventKeepsCourses          the law, where those that ask are of high speed
 --     EventLeavesDevice          .. and the device of an endpoint that no queue head has stays as it is
 use Rattle.std.specs.Prelude.{◌≡◌, ℕ, ◌==◌, Bool, true, List, Option, Some, None, if◌then◌else◌}
 use Rattle.usb_base.specs.declared.packets.Ask.{Ask}
@@ -16,7 +16,7 @@ use Rattle.law_ring.specs.Hand.{Hand}
 use Rattle.claims_base.specs.Controller.{Base}
 use Rattle.law_ring.specs.Told.{HasEndpoint, Endpoint as Characteristics}
 use Rattle.law_controller.specs.controlled_streams.Control.{IsControlled, ControlEffect}
-use Rattle.law_devices.specs.ring_requests.Windows.{Queue, Lines, AreWindows, Step, progressed, stepped, HaltedStay}
+use Rattle.law_devices.specs.ring_requests.Windows.{Queue, Lines, AreWindows, AreHigh, Step, progressed, stepped, HaltedStay}
 use Rattle.law_devices.specs.control_requests.Events.{IsControlStepOf}
 use Rattle.law_devices.specs.control_requests.Rests.{IsControlBeside}
 use Rattle.law_reports.specs.requests.Courses.{Course, NoQueue, Asks, Rests, queues, are_asking, all_lines, CoursesStand}
@@ -45,7 +45,7 @@ pub record CoursesGoOn {W : Type 0} {begins : W → ℕ → Bool → W → Type 
 abbrev pub EventKeepsCourses : {W : Type 0} → (W → ℕ → Bool → W → Type 0) → (W → Ask → List ℕ → Reply → W → Type 0) → (W → ℕ → ℕ → Option Device) → Type 0
 EventKeepsCourses {W} begins transacts device = (base : Base) (member : ℕ → Bool) (courses : ℕ → Course) (parts : StructureSets) (hand : Hand) (content : Content) (wire after : W)
     (now : StructureSets) (later : Hand) (effect : ControlEffect begins transacts parts hand wire after now later) → IsControlBus transacts device → KeepsDevices begins device
-    → IsControlled base member parts hand content → CoursesStand device member courses parts hand wire → CoursesGoOn device member courses effect
+    → IsControlled base member parts hand content → AreHigh (are_asking courses) parts → CoursesStand device member courses parts hand wire → CoursesGoOn device member courses effect
 
 abbrev pub EventLeavesDevice : {W : Type 0} → (W → ℕ → Bool → W → Type 0) → (W → Ask → List ℕ → Reply → W → Type 0) → (W → ℕ → ℕ → Option Device) → Type 0
 EventLeavesDevice {W} begins transacts device = (base : Base) (member : ℕ → Bool) (parts : StructureSets) (hand : Hand) (content : Content) (wire after : W) (now : StructureSets) (later : Hand)

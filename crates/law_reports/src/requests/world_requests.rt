@@ -11,7 +11,7 @@ ghost use Rattle.law_structures.specs.lent_structures.Structures.{StructureSets}
 ghost use Rattle.bus_wire.specs.Bus.{Fixed};
 ghost use Rattle.law_ring.specs.Hand.{Hand};
 ghost use Rattle.claims_base.specs.Controller.{Base};
-ghost use Rattle.law_devices.specs.ring_requests.Windows.{Queue, sent_at, Lines, lines_at, HasEnded, IsActedOnce, IsQueue, Step, stepped};
+ghost use Rattle.law_devices.specs.ring_requests.Windows.{Queue, sent_at, Lines, lines_at, HasEnded, IsActedOnce, IsQueue, AreHigh, Step, stepped};
 ghost use Rattle.law_devices.specs.ring_requests.Runs.{first_of};
 ghost use Rattle.dev_control.specs.Stages.{Stages};
 ghost use Rattle.claims_report.specs.Acts.{IsOnce};
@@ -27,7 +27,8 @@ ghost use Rattle.law_reports.specs.requests.world_requests.Recording.{AreFound, 
 /// from a request that is done to the next one.
 pub fn the_controller_leaves_the_windows()
     ensures { (fixed : Fixed) (base : Base) (member windows : ℕ → Bool) (sent : ℕ → Queue) (parts : StructureSets) (hand : Hand) (lines : ℕ → Lines) (w : World)
-        → HearsBytesNow fixed w → IsRequesting fixed base member windows sent parts hand lines w → StaysRequesting fixed base member windows sent lines (controller_next fixed w) }
+        → HearsBytesNow fixed w → IsRequesting fixed base member windows sent parts hand lines w → AreHigh windows parts
+        → StaysRequesting fixed base member windows sent lines (controller_next fixed w) }
 {}
 
 /// Where memory shows that the status of a request ended, and that its qTD or its queue head isn't halted, its device acted on it exactly once.

@@ -12,11 +12,11 @@ use Rattle.law_ring.specs.Ring.{IsRing}
 use Rattle.law_ring.specs.Effects.{AreBytesHeard}
 use Rattle.law_controller.specs.controlled_streams.Control.{IsOn, IsControlled, BeginsMicroframe, ControlEffect, a_microframe, a_step, Controls}
 use Rattle.law_controller.proofs.lemmas.controlled_streams.Controlling.{each_event_of_the_controller}
-use Rattle.law_devices.specs.ring_requests.Windows.{Queue, Lines, IsQueue, AreSent, AreWindows, Step, stepped, HaltedStay}
+use Rattle.law_devices.specs.ring_requests.Windows.{Queue, Lines, IsQueue, AreSent, AreWindows, AreHigh, Step, stepped, HaltedStay}
 use Rattle.law_devices.proofs.lemmas.ring_requests.Windows.{none_stay, rest_by}
 use Rattle.law_devices.specs.control_requests.Events.{IsControlStepOf, ControlWindowsGoOn}
 
-module _ {W : Type 0} (begins : W → ℕ → Bool → W → Type 0) (transacts : W → Ask → List ℕ → Reply → W → Type 0) (device : W → ℕ → ℕ → Option Device) (base : Base) (member windows : ℕ → Bool) (sent : ℕ → Queue) (fixed : AreSent member windows sent) (bus : IsControlBus transacts device) (keeps : KeepsDevices begins device) (lines : ℕ → Lines) (parts : StructureSets) (hand : Hand) (c : Content) (wire : W) (controlled : IsControlled base member parts hand c) (all : AreWindows device member windows sent lines parts hand wire) (after : W) (now : StructureSets) (later : Hand) where
+module _ {W : Type 0} (begins : W → ℕ → Bool → W → Type 0) (transacts : W → Ask → List ℕ → Reply → W → Type 0) (device : W → ℕ → ℕ → Option Device) (base : Base) (member windows : ℕ → Bool) (sent : ℕ → Queue) (fixed : AreSent member windows sent) (bus : IsControlBus transacts device) (keeps : KeepsDevices begins device) (lines : ℕ → Lines) (parts : StructureSets) (hand : Hand) (c : Content) (wire : W) (controlled : IsControlled base member parts hand c) (all : AreWindows device member windows sent lines parts hand wire) (high : AreHigh windows parts) (after : W) (now : StructureSets) (later : Hand) where
   pub record Rest (z : ControlEffect begins transacts parts hand wire after now later) : Type 0 where
     pub step : Option Step
     pub windows_are : AreWindows device member windows sent (stepped sent step lines) now later after
@@ -43,14 +43,14 @@ module _ {W : Type 0} (begins : W → ℕ → Bool → W → Type 0) (transacts 
   }
   rest_of (a_step k) =
       let ring : IsRing base member parts hand (walk_place c) = controlled.ring in
-      let r = rest_by transacts device bus member windows sent fixed lines parts hand (walk_place c).walk.reply wire ring.members ring.in_hand all after now later k.kind k.effect in
+      let r = rest_by transacts device bus member windows sent fixed lines parts hand (walk_place c).walk.reply wire ring.members ring.in_hand all high after now later k.kind k.effect in
       record { step = r.step; windows_are = r.windows_are; is = r.is; halted = r.halted }
 
 pub an_event_keeps_the_windows : {W : Type 0} (begins : W → ℕ → Bool → W → Type 0) (transacts : W → Ask → List ℕ → Reply → W → Type 0) (device : W → ℕ → ℕ → Option Device) (base : Base) (member windows : ℕ → Bool) (sent : ℕ → Queue) (lines : ℕ → Lines) (parts : StructureSets) (hand : Hand) (c : Content) (wire : W) (new : Content) (after : W)
     → AreSent member windows sent → IsControlBus transacts device → KeepsDevices begins device → IsControlled base member parts hand c → IsOn base
-    → AreWindows device member windows sent lines parts hand wire → AreBytesHeard transacts wire after → HasRow begins transacts (microframe_row c.registers c.control) c wire new after
+    → AreWindows device member windows sent lines parts hand wire → AreHigh windows parts → AreBytesHeard transacts wire after → HasRow begins transacts (microframe_row c.registers c.control) c wire new after
     → ControlWindowsGoOn begins transacts device base member windows sent lines parts hand wire after new
-an_event_keeps_the_windows begins transacts device base member windows sent lines parts hand c wire new after fixed bus keeps controlled on all heard row =
+an_event_keeps_the_windows begins transacts device base member windows sent lines parts hand c wire new after fixed bus keeps controlled on all high heard row =
     let e : Controls begins transacts base member parts hand wire after new = each_event_of_the_controller begins transacts base member parts hand c wire new after controlled on heard row in
-    let r = rest_of begins transacts device base member windows sent fixed bus keeps lines parts hand c wire controlled all after e.now e.later e.effect in
+    let r = rest_of begins transacts device base member windows sent fixed bus keeps lines parts hand c wire controlled all high after e.now e.later e.effect in
     record { event = e; step = r.step; all = r.windows_are; is = r.is; halted = r.halted }

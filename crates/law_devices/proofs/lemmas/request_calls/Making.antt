@@ -40,9 +40,9 @@ pipe_with addr ep eps kind q = record { addr = addr; ep = ep; speed = speed_at e
 abbrev planned_with : ℕ → ℕ → ℕ → Bool → Qh → Transaction
 planned_with addr ep eps dtc q = transaction_at (split_at (eps == 2) q.token.split_state (pipe_with addr ep eps (kind_at dtc) q)) (pipe_with addr ep eps (kind_at dtc) q) (host_in q)
 
-pub planned_is : (e : Endpoint) (q : Qh) → IsEndpoint e q → planned q ≡ transaction_at Splits.Plain (own_pipe e q.hub q.port (pid_at q.token.pid)) (host_in q)
-planned_is e q is =
-    ap (λ (d : Bool). planned_with q.addr q.ep q.eps d q) is.toggles ∙ ap (λ (n : ℕ). planned_with q.addr q.ep n true q) is.high
+pub planned_is : (e : Endpoint) (q : Qh) → IsEndpoint e q → q.eps ≡ 2 → planned q ≡ transaction_at Splits.Plain (own_pipe e q.hub q.port (pid_at q.token.pid)) (host_in q)
+planned_is e q is high =
+    ap (λ (d : Bool). planned_with q.addr q.ep q.eps d q) is.toggles ∙ ap (λ (n : ℕ). planned_with q.addr q.ep n true q) high
     ∙ ap (λ (n : ℕ). planned_with n q.ep 2 true q) is.address ∙ ap (λ (n : ℕ). planned_with e.addr n 2 true q) is.number
 
 -- it is asked by a token
@@ -73,7 +73,7 @@ module _ {W : Type 0} (transacts : W → Ask → List ℕ → Reply → W → Ty
   own_is : call_in (planned q) out false ≡ own (host_in q)
   own_is =
       ap (λ (bs : List ℕ). call_in (planned q) bs false) given.are
-      ∙ ap (λ (t : Transaction). call_in t (take t.bytes source) false) (planned_is e q works.endpoint)
+      ∙ ap (λ (t : Transaction). call_in t (take t.bytes source) false) (planned_is e q works.endpoint works.high)
 
   stage_is : stage_call (host_in q) ≡ call_at e r l.host
   stage_is =

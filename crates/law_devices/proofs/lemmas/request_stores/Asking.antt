@@ -45,7 +45,7 @@ one_laid = record {
   some = omega (arith);
   first = record {
     head = refl;
-    control = record { toggles = refl; high = refl; address = refl; number = refl; packets = refl };
+    control = record { toggles = refl; address = refl; number = refl; packets = refl };
     idle = refl;
     nothing_made = refl;
     leads = refl;
@@ -164,7 +164,7 @@ both_laid = record {
   some = omega (arith);
   first = record {
     head = refl;
-    control = record { toggles = refl; high = refl; address = refl; number = refl; packets = refl };
+    control = record { toggles = refl; address = refl; number = refl; packets = refl };
     idle = refl;
     nothing_made = refl;
     leads = refl;

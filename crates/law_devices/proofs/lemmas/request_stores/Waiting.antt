@@ -18,7 +18,7 @@ pub waits : IsAtRest described (opened 64 0) 64 Empty waiting_parts 32 (device_a
 waits = record {
   queue = queue;
   head = refl;
-  control = record { toggles = refl; high = refl; address = refl; number = refl; packets = refl };
+  control = record { toggles = refl; address = refl; number = refl; packets = refl };
   idle = refl;
   unsettled = refl;
   leads = λ goes_on. refl;
@@ -46,7 +46,7 @@ pub rests : IsAtRest described (first_ended.line 0).device 160 Empty ended_parts
 rests = record {
   queue = done_queue;
   head = refl;
-  control = record { toggles = refl; high = refl; address = refl; number = refl; packets = refl };
+  control = record { toggles = refl; address = refl; number = refl; packets = refl };
   idle = refl;
   unsettled = refl;
   leads = λ goes_on. refl;

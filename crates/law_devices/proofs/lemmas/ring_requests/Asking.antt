@@ -1,10 +1,12 @@
 -- The worked request is laid out, and so are both; memory shows the second where the first is done, and once it is begun.
-use Rattle.std.proofs.Common.{◌≡◌, ◌≢◌, ℕ, zero, suc, ◌<◌, ◌≤◌, true, false, Some, None, refl, inl, inr, sym, ◌∙◌, subst, arith}
+use Rattle.std.proofs.Common.{◌≡◌, ◌≢◌, ℕ, zero, suc, ◌<◌, ◌≤◌, ◌==◌, true, false, Some, None, refl, inl, inr, ap, sym, ◌∙◌, subst, arith}
 use Rattle.std.proofs.lemmas.Bool.{eqb-true, false≢true}
 use Rattle.law_devices.proofs.Common.{first_low}
 use Rattle.link_words.specs.Links.{no_qtd}
 use Rattle.hc_copy.specs.Overlay.{advanced}
+use Rattle.qh_qtd.specs.declared.queue_head.Qh.{Qh}
 use Rattle.law_structures.specs.lent_structures.Structures.{Element, Buffer, Structures}
+use Rattle.law_structures.proofs.lemmas.lent_structures.Altering.{found_queue}
 use Rattle.law_request.specs.Host.{Stage, Setup, Data, Status, Done}
 use Rattle.law_request.specs.Line.{Line}
 use Rattle.law_request.specs.Samples.{described, get_device, get_configuration}
@@ -15,7 +17,7 @@ use Rattle.law_devices.specs.request_calls.Stages.{IsEndpoint}
 use Rattle.law_ring.specs.Hand.{Empty}
 use Rattle.law_devices.specs.ring_requests.Laid.{place_at, AreApart, AreOthers, comes, IsUnpublished, IsIdle, LeadBehind, IsFresh}
 use Rattle.law_devices.specs.ring_requests.Shown.Shows.{works, ends}
-use Rattle.law_devices.specs.ring_requests.Windows.{sent_at, IsFinished, IsBehind, IsLaid, HasTail, IsQueue, AreLaid, AreChained, AreSent}
+use Rattle.law_devices.specs.ring_requests.Windows.{sent_at, IsFinished, IsBehind, IsLaid, HasTail, IsQueue, AreLaid, AreChained, AreSent, AreHigh}
 use Rattle.law_devices.specs.ring_requests.Samples.{queue, setup, read, status, pages_at, parts, request, first_status, second_setup, second_read, both_parts, asked, stand_at, requests, after, first_done, then_begun, done_queue, done_qtd, done_parts, next_queue, next_parts, device_in, is_only, is_both}
 
 none_leads : (part : Structures) → IsUnpublished part no_qtd
@@ -33,13 +35,19 @@ fresh_at _ on = absurd (false≢true on)
 pub request_laid : IsLaid request Empty parts 32 queue
 request_laid = record {
   head = refl;
-  control = record { toggles = refl; high = refl; address = refl; number = refl; packets = refl };
+  control = record { toggles = refl; address = refl; number = refl; packets = refl };
   idle = refl;
   nothing_made = refl;
   leads = refl;
   fresh = fresh_at;
   none_told = λ some. record { queue = queue; head = refl; qtd = read; here = refl; are = refl };
 }
+
+pub its_is_high : AreHigh (λ n. n == 32) parts
+its_is_high n q on here =
+    let is : n ≡ 32 = eqb-true n 32 on in
+    let same : queue ≡ q = found_queue (parts 32 32) queue q refl (ap (λ (k : ℕ). parts k k) (sym is) ∙ here) in
+    ap (λ (z : Qh). z.eps) (sym same)
 
 -- ---- both
 
@@ -80,7 +88,7 @@ both_laid = record {
   some = omega (arith);
   first = record {
     head = refl;
-    control = record { toggles = refl; high = refl; address = refl; number = refl; packets = refl };
+    control = record { toggles = refl; address = refl; number = refl; packets = refl };
     idle = refl;
     nothing_made = refl;
     leads = refl;
@@ -139,7 +147,7 @@ first_stands : Stands described get_device ((after first_done).line 0)
 first_stands = done_first ((after first_done).line 0) (record { moved = refl; acts = refl }) refl refl refl
 
 is_control : IsEndpoint described done_queue
-is_control = record { toggles = refl; high = refl; address = refl; number = refl; packets = refl }
+is_control = record { toggles = refl; address = refl; number = refl; packets = refl }
 
 pub first_shown : IsQueue requests (after first_done) Empty done_parts 32 (device_in 0 (after first_done))
 first_shown = record {
@@ -182,7 +190,7 @@ second_shown = record {
   window = record {
     queue = next_queue;
     head = refl;
-    control = record { toggles = refl; high = refl; address = refl; number = refl; packets = refl };
+    control = record { toggles = refl; address = refl; number = refl; packets = refl };
     shown = works (record {
       goes_on = refl;
       active = refl;

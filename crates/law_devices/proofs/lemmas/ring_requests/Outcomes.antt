@@ -47,11 +47,11 @@ plain_leaves Failed host = error_leaves host host.ping (is_last_error host)
 plain_leaves FailedPinged host = error_leaves host true (is_last_error host)
 plain_leaves _ host = refl
 
-pub call_leaves : (e : Endpoint) (q : Qh) (out : List ℕ) (reply : Reply) → IsEndpoint e q → LeavesActive (outcome_in (planned q) out false reply) (host_in q) (host_after (planned q) out false reply)
-call_leaves e q out reply is =
+pub call_leaves : (e : Endpoint) (q : Qh) (out : List ℕ) (reply : Reply) → IsEndpoint e q → q.eps ≡ 2 → LeavesActive (outcome_in (planned q) out false reply) (host_in q) (host_after (planned q) out false reply)
+call_leaves e q out reply is high =
     let t : Transaction = transaction_at Splits.Plain (own_pipe e q.hub q.port (pid_at q.token.pid)) (host_in q) in
     let c : Call = call_in t out false in
-    subst (λ (t : Transaction). LeavesActive (outcome_in t out false reply) (host_in q) (host_after t out false reply)) (sym (planned_is e q is))
+    subst (λ (t : Transaction). LeavesActive (outcome_in t out false reply) (host_in q) (host_after t out false reply)) (sym (planned_is e q is high))
     (plain_leaves (plain_row (token_of c.ask) (heard_of (host_in q) reply) c.sent) (host_in q))
 
 -- ---- where nothing was moved

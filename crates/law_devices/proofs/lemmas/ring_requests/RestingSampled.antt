@@ -13,7 +13,7 @@ pub idle_rests : IsAtRest described (opened 64 0) 64 Empty rest_parts 32 left_de
 idle_rests = record {
   queue = queue;
   head = refl;
-  control = record { toggles = refl; high = refl; address = refl; number = refl; packets = refl };
+  control = record { toggles = refl; address = refl; number = refl; packets = refl };
   idle = refl;
   unsettled = refl;
   leads = λ goes_on. refl;
@@ -26,7 +26,7 @@ pub stalled_rests : IsAtRest described (opened 64 0) 160 Empty stalled_parts 32 
 stalled_rests = record {
   queue = stalled_queue;
   head = refl;
-  control = record { toggles = refl; high = refl; address = refl; number = refl; packets = refl };
+  control = record { toggles = refl; address = refl; number = refl; packets = refl };
   idle = refl;
   unsettled = refl;
   leads = λ goes_on. absurd (false≢true (sym goes_on));

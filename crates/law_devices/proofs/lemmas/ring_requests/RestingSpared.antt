@@ -34,7 +34,6 @@ use Rattle.law_devices.specs.ring_requests.Resting.{IsAtRest, IsOtherEndpoint, I
 pub endpoint_same : (e : Endpoint) (q r : Qh) → endpoint_of r ≡ endpoint_of q → IsEndpoint e q → IsEndpoint e r
 endpoint_same e q r same is = record {
   toggles = ap (λ (x : Characteristics). x.dtc) same ∙ is.toggles;
-  high = ap (λ (x : Characteristics). x.speed) same ∙ is.high;
   address = ap (λ (x : Characteristics). x.addr) same ∙ is.address;
   number = ap (λ (x : Characteristics). x.ep) same ∙ is.number;
   packets = ap (λ (x : Characteristics). x.max) same ∙ is.packets;

@@ -39,14 +39,14 @@ is_taken q a t = record { active = refl; current = refl; pid = refl; next = refl
 
 pub endpoint_taken : (e : Endpoint) (q : Qh) (a : ℕ) (t : Qtd) → IsEndpoint e q → IsEndpoint e (advanced q a t)
 unfolding advanced
-endpoint_taken e q a t is = record { toggles = is.toggles; high = is.high; address = is.address; number = is.number; packets = is.packets }
+endpoint_taken e q a t is = record { toggles = is.toggles; address = is.address; number = is.number; packets = is.packets }
 
 -- the host's side that the qTD brings
-host_taken : (e : Endpoint) (q : Qh) (a : ℕ) (t : Qtd) → IsEndpoint e q → host_in (advanced q a t) ≡ host_at (record t.token { ping = q.token.ping }) e.max
-host_taken e q a t is =
+host_taken : (e : Endpoint) (q : Qh) (a : ℕ) (t : Qtd) → IsEndpoint e q → q.eps ≡ 2 → host_in (advanced q a t) ≡ host_at (record t.token { ping = q.token.ping }) e.max
+host_taken e q a t is high =
     (is_taken q a t).host
     ∙ ap (λ (b : Bool). host_at (record t.token { toggle = if b then t.token.toggle else q.token.toggle; ping = if q.eps == 2 then q.token.ping else t.token.ping }) q.max) is.toggles
-    ∙ ap (λ (n : ℕ). host_at (record t.token { ping = if n == 2 then q.token.ping else t.token.ping }) q.max) is.high
+    ∙ ap (λ (n : ℕ). host_at (record t.token { ping = if n == 2 then q.token.ping else t.token.ping }) q.max) high
     ∙ ap (λ (m : ℕ). host_at (record t.token { ping = q.token.ping }) m) is.packets
 
 -- ---- where only the queue head changes
@@ -80,7 +80,7 @@ module _ (part : Structures) (n : ℕ) (old new : Qh) (here : part n ≡ Some (Q
 
 -- ---- the qTD is taken
 
-module _ (e : Endpoint) (r : Request) (x : Places) (part : Structures) (n : ℕ) (q : Qh) (h : Host) (here : part n ≡ Some (QueueHead q)) (is : IsEndpoint e q) (a : ℕ) (t : Qtd) (idle : q.token.active ≡ false) (goes_on : q.token.halted ≡ false) (leads : qtd_link_of (next_pointer q) ≡ To a) (there : part a ≡ Some (Element t)) (published : t.token.active ≡ true) where
+module _ (e : Endpoint) (r : Request) (x : Places) (part : Structures) (n : ℕ) (q : Qh) (h : Host) (here : part n ≡ Some (QueueHead q)) (is : IsEndpoint e q) (high : q.eps ≡ 2) (a : ℕ) (t : Qtd) (idle : q.token.active ≡ false) (goes_on : q.token.halted ≡ false) (leads : qtd_link_of (next_pointer q) ≡ To a) (there : part a ≡ Some (Element t)) (published : t.token.active ≡ true) where
   abbrev new : Qh
   new = advanced q a t
 
@@ -95,7 +95,7 @@ module _ (e : Endpoint) (r : Request) (x : Places) (part : Structures) (n : ℕ)
       record {
         goes_on = w.goes_on;
         active = v.active ∙ published;
-        side_is = host_taken e q a t is ∙ ap (λ (u : Qtd). host_at (record u.token { ping = q.token.ping }) e.max) same ∙ f.begins q.token.ping ∙ sym w.side_is;
+        side_is = host_taken e q a t is high ∙ ap (λ (u : Qtd). host_at (record u.token { ping = q.token.ping }) e.max) same ∙ f.begins q.token.ping ∙ sym w.side_is;
         current = v.current ∙ place;
         stage = k;
         pid = v.pid ∙ ap (λ (u : Qtd). u.token.pid) qtd;

@@ -49,7 +49,7 @@ use Rattle.law_devices.proofs.lemmas.request_calls.Making.{makes_one}
 use Rattle.law_devices.specs.ring_requests.Laid.{Places, place_at, IsPlace, AreApart, HasBytes}
 use Rattle.law_devices.specs.ring_requests.Shown.{hand_side, AreFresh, IsPending, Works, Ends, Shows, IsAmong}
 use Rattle.law_devices.specs.ring_requests.Shown.Shows.{works, waits, ends, halts}
-use Rattle.law_devices.specs.ring_requests.Windows.{Sent, Queue, sent_at, Lines, IsWindow, IsFinished, IsBehind, HasEnded, IsActedOnce, HasTail, IsQueueOf, IsQueue, AreSent, IsElsewhere, AreWindows, Transaction, Advance, Step, opened, progressed, stepped, stage_of, is_done, IsTransactionAt, advance_at, IsStepOf, HaltedStay, WindowsGoOn}
+use Rattle.law_devices.specs.ring_requests.Windows.{Sent, Queue, sent_at, Lines, IsWindow, IsFinished, IsBehind, HasEnded, IsActedOnce, HasTail, IsQueueOf, IsQueue, AreSent, IsElsewhere, AreWindows, AreHigh, Transaction, Advance, Step, opened, progressed, stepped, stage_of, is_done, IsTransactionAt, advance_at, IsStepOf, HaltedStay, WindowsGoOn}
 use Rattle.law_devices.proofs.lemmas.ring_requests.Stages.{idle_still}
 use Rattle.law_devices.proofs.lemmas.ring_requests.Outcomes.{call_leaves, moved_none}
 use Rattle.law_devices.proofs.lemmas.ring_requests.Given.{sized, IsSized, stage_given}
@@ -215,7 +215,7 @@ not_both true false off on = refl
 not_both true true off on = absurd (false≢true (sym off))
 not_both false b off on = absurd (false≢true on)
 
-module _ {W : Type 0} (transacts : W → Ask → List ℕ → Reply → W → Type 0) (device : W → ℕ → ℕ → Option Device) (bus : IsControlBus transacts device) (member windows : ℕ → Bool) (sent : ℕ → Queue) (fixed : AreSent member windows sent) (lines : ℕ → Lines) (parts : StructureSets) (hand : Hand) (reply : Reply) (wire : W) (members : AreMembers member parts) (in_hand : IsInHand member parts reply hand) (all : AreWindows device member windows sent lines parts hand wire) (after : W) (now : StructureSets) (later : Hand) (kind : WalkStep) where
+module _ {W : Type 0} (transacts : W → Ask → List ℕ → Reply → W → Type 0) (device : W → ℕ → ℕ → Option Device) (bus : IsControlBus transacts device) (member windows : ℕ → Bool) (sent : ℕ → Queue) (fixed : AreSent member windows sent) (lines : ℕ → Lines) (parts : StructureSets) (hand : Hand) (reply : Reply) (wire : W) (members : AreMembers member parts) (in_hand : IsInHand member parts reply hand) (all : AreWindows device member windows sent lines parts hand wire) (high : AreHigh windows parts) (after : W) (now : StructureSets) (later : Hand) (kind : WalkStep) where
   abbrev device_at : W → ℕ → Option Device
   device_at w n = device w (sent n).endpoint.addr (sent n).endpoint.num
 
@@ -302,7 +302,7 @@ module _ {W : Type 0} (transacts : W → Ask → List ℕ → Reply → W → Ty
       taken_queue : is_done (stage_of (lines n)) ≡ false → IsQueue (sent n) (lines n) later now n (device_at wire n)
       taken_queue going =
           let z = queue_goes mine (lines n) hand later parts now n (device_at wire n) (device_at wire n) (λ j more few. fresh_taken_there j) (tail_still n (alters n)) (lines n).line (λ j less. refl)
-          (window_works (mine.requests began) (mine.places began) line_began (taken_shows mine.endpoint (mine.requests began) (mine.places began) (parts n) n k.copy.queue line_began.host here control_taken k.element k.qtd k.idle k.goes_on k.leads there k.published going shown) w.window)
+          (window_works (mine.requests began) (mine.places began) line_began (taken_shows mine.endpoint (mine.requests began) (mine.places began) (parts n) n k.copy.queue line_began.host here control_taken (high n k.copy.queue on here) k.element k.qtd k.idle k.goes_on k.leads there k.published going shown) w.window)
           (λ j few differs. told.bytes n (mine.places j).data_at) w in
           record { within = z.within; window = z.window; finished = z.finished; behind = z.behind; tail = z.tail }
 
@@ -327,7 +327,7 @@ module _ {W : Type 0} (transacts : W → Ask → List ℕ → Reply → W → Ty
         -- its window as it window_opens, while the queue head still waits
         next_works : Works (sent n).endpoint ((sent n).requests (suc (lines n).under)) ((sent n).places (suc (lines n).under)) (with_structure (parts n) n (QueueHead (advanced k.copy.queue k.element k.qtd))) (host_in (advanced k.copy.queue k.element k.qtd)) (advanced k.copy.queue k.element k.qtd) next_line.host
         next_works =
-            taken_works mine.endpoint (mine.requests (suc began)) (mine.places (suc began)) (parts n) n k.copy.queue next_line.host here control_taken k.element k.qtd k.idle k.goes_on k.leads there k.published
+            taken_works mine.endpoint (mine.requests (suc began)) (mine.places (suc began)) (parts n) n k.copy.queue next_line.host here control_taken (high n k.copy.queue on here) k.element k.qtd k.idle k.goes_on k.leads there k.published
             (next_waits mine.endpoint (mine.places began) (parts n) k.copy.queue line_began.host (mine.requests (suc began)) (mine.places (suc began)) k.idle (fixed.chained n on began more) ended next.fresh)
 
         next_window : IsWindow (sent_at (sent n) (suc (lines n).under)) (opened (sent n) (suc (lines n).under) ((lines n).line (lines n).under)) later now n (device_at wire n)
@@ -562,7 +562,7 @@ module _ {W : Type 0} (transacts : W → Ask → List ℕ → Reply → W → Ty
           (subst (λ (s : HostSide). Shows v.endpoint v.request v.places (parts at) s window.queue line.host) (side_unsettled hand at window.queue unmade) window.shown))
 
       on_stage : WorksOn (sent m.copy.at).endpoint ((sent m.copy.at).requests (lines m.copy.at).under) m.copy.queue ((lines m.copy.at).line (lines m.copy.at).under).host
-      on_stage = record { endpoint = control; pid = ap pid_at work.pid ∙ work.stage.pid; side = work.side_is }
+      on_stage = record { endpoint = control; high = high m.copy.at m.copy.queue on copied.here; pid = ap pid_at work.pid ∙ work.stage.pid; side = work.side_is }
 
       element : m.sent.element ≡ work.stage.qtd
       element = found_element (parts at q.current) m.sent.element work.stage.qtd m.sent.here (ap (parts at) work.current ∙ work.stage.here)
@@ -597,7 +597,7 @@ module _ {W : Type 0} (transacts : W → Ask → List ℕ → Reply → W → Ty
       shown_now : Shows (sent m.copy.at).endpoint ((sent m.copy.at).requests (lines m.copy.at).under) ((sent m.copy.at).places (lines m.copy.at).under) (parts m.copy.at) made.host m.copy.queue outcome_is
       shown_now =
           let s : Settles (kind_at q.dtc) q m.out false m.reply = a_transaction_settles (kind_at q.dtc) q m.out false m.reply m.sent.all in
-          shows_after v.endpoint v.request v.places apart (parts at) q line.host work made.host (s.host.packets ∙ control.packets) published made.outcome (moved_of q made.outcome m.reply source) (call_leaves v.endpoint q m.out m.reply control)
+          shows_after v.endpoint v.request v.places apart (parts at) q line.host work made.host (s.host.packets ∙ control.packets) published made.outcome (moved_of q made.outcome m.reply source) (call_leaves v.endpoint q m.out m.reply control (high m.copy.at m.copy.queue on copied.here))
 
       -- what is told of its data
       told_at : (s : Stage) → line.host.stage ≡ s → Told hand parts at v.places.data_at line.host.moved → Told later parts at v.places.data_at outcome_is.moved
@@ -686,40 +686,40 @@ module _ {W : Type 0} (transacts : W → Ask → List ℕ → Reply → W → Ty
 -- ---- an event
 
 module _ {W : Type 0} (transacts : W → Ask → List ℕ → Reply → W → Type 0) (device : W → ℕ → ℕ → Option Device) (bus : IsControlBus transacts device) (member windows : ℕ → Bool) (sent : ℕ → Queue) (fixed : AreSent member windows sent) (lines : ℕ → Lines) where
-  pub rest_by : (parts : StructureSets) (hand : Hand) (reply : Reply) (wire : W) (members : AreMembers member parts) (in_hand : IsInHand member parts reply hand) (all : AreWindows device member windows sent lines parts hand wire) (after : W) (now : StructureSets) (later : Hand) (kind : WalkStep) (effect : Effect transacts parts hand wire after now later kind)
-      → Rest transacts device bus member windows sent fixed lines parts hand reply wire members in_hand all after now later kind effect
-  rest_by parts hand reply wire members in_hand all after now later kind (reads k same quiet) = record {
+  pub rest_by : (parts : StructureSets) (hand : Hand) (reply : Reply) (wire : W) (members : AreMembers member parts) (in_hand : IsInHand member parts reply hand) (all : AreWindows device member windows sent lines parts hand wire) (high : AreHigh windows parts) (after : W) (now : StructureSets) (later : Hand) (kind : WalkStep) (effect : Effect transacts parts hand wire after now later kind)
+      → Rest transacts device bus member windows sent fixed lines parts hand reply wire members in_hand all high after now later kind effect
+  rest_by parts hand reply wire members in_hand all high after now later kind (reads k same quiet) = record {
     step = None;
-    windows_are = all_kept transacts device bus member windows sent fixed lines parts hand reply wire members in_hand all after now later kind same (empty_unsettled hand k.nothing) (copied_unsettled later k.copy k.in_hand) quiet;
+    windows_are = all_kept transacts device bus member windows sent fixed lines parts hand reply wire members in_hand all high after now later kind same (empty_unsettled hand k.nothing) (copied_unsettled later k.copy k.in_hand) quiet;
     is = refl;
     halted = none_stay windows lines;
   }
-  rest_by parts hand reply wire members in_hand all after now later kind (passes k same quiet) = record {
+  rest_by parts hand reply wire members in_hand all high after now later kind (passes k same quiet) = record {
     step = None;
-    windows_are = all_kept transacts device bus member windows sent fixed lines parts hand reply wire members in_hand all after now later kind same k.unsettled (empty_unsettled later k.nothing) quiet;
+    windows_are = all_kept transacts device bus member windows sent fixed lines parts hand reply wire members in_hand all high after now later kind same k.unsettled (empty_unsettled later k.nothing) quiet;
     is = refl;
     halted = none_stay windows lines;
   }
-  rest_by parts hand reply wire members in_hand all after now later kind (ends k same quiet) = record {
+  rest_by parts hand reply wire members in_hand all high after now later kind (ends k same quiet) = record {
     step = None;
-    windows_are = all_kept transacts device bus member windows sent fixed lines parts hand reply wire members in_hand all after now later kind same k.unsettled (empty_unsettled later k.nothing) quiet;
+    windows_are = all_kept transacts device bus member windows sent fixed lines parts hand reply wire members in_hand all high after now later kind same k.unsettled (empty_unsettled later k.nothing) quiet;
     is = refl;
     halted = none_stay windows lines;
   }
-  rest_by parts hand reply wire members in_hand all after now later kind (takes k quiet) =
+  rest_by parts hand reply wire members in_hand all high after now later kind (takes k quiet) =
       let copied : IsCopied member parts k.copy = subst (IsInHand member parts reply) k.in_hand in_hand in
-      let z = taken_all transacts device bus member windows sent fixed lines parts hand reply wire members in_hand all after now later kind k copied quiet
+      let z = taken_all transacts device bus member windows sent fixed lines parts hand reply wire members in_hand all high after now later kind k copied quiet
       (λ n. effect_alters transacts member parts hand reply wire after now later kind in_hand (takes k quiet) n) in
       record { step = advance_at windows lines k.copy.at; windows_are = z.windows_are; is = refl; halted = z.halted }
-  rest_by parts hand reply wire members in_hand all after now later kind (makes m same) =
+  rest_by parts hand reply wire members in_hand all high after now later kind (makes m same) =
       let copied : IsCopied member parts m.copy = subst (IsInHand member parts reply) m.in_hand in_hand in
-      let k = makes_rest transacts device bus member windows sent fixed lines parts hand reply wire members in_hand all after now later kind m same copied (windows m.copy.at) refl in
+      let k = makes_rest transacts device bus member windows sent fixed lines parts hand reply wire members in_hand all high after now later kind m same copied (windows m.copy.at) refl in
       record { step = k.step; windows_are = k.windows_are; is = k.is; halted = k.halted }
-  rest_by parts hand reply wire members in_hand all after now later kind (writes_back k quiet) =
+  rest_by parts hand reply wire members in_hand all high after now later kind (writes_back k quiet) =
       let both : IsCopied member parts k.copy × IsSettled k.copy.queue reply k.settled = subst (IsInHand member parts reply) k.in_hand in_hand in
       record {
         step = None;
-        windows_are = written_all transacts device bus member windows sent fixed lines parts hand reply wire members in_hand all after now later kind k both.0 both.1 quiet
+        windows_are = written_all transacts device bus member windows sent fixed lines parts hand reply wire members in_hand all high after now later kind k both.0 both.1 quiet
             (λ n. effect_alters transacts member parts hand reply wire after now later kind in_hand (writes_back k quiet) n);
         is = refl;
         halted = none_stay windows lines;
@@ -727,11 +727,12 @@ module _ {W : Type 0} (transacts : W → Ask → List ℕ → Reply → W → Ty
 
 pub each_event_keeps_the_windows : {W : Type 0} (transacts : W → Ask → List ℕ → Reply → W → Type 0) (device : W → ℕ → ℕ → Option Device) (base : Base) (member windows : ℕ → Bool) (sent : ℕ → Queue) (lines : ℕ → Lines) (parts : StructureSets) (hand : Hand) (p : WalkPlace) (wire : W) (new : WalkPlace) (after : W)
     → AreSent member windows sent → IsControlBus transacts device → IsRing base member parts hand p → AreWindows device member windows sent lines parts hand wire
+    → AreHigh windows parts
     → AreBytesHeard transacts wire after → Leads transacts (event_row p) (at_event p) wire new after
     → WindowsGoOn transacts device base member windows sent lines parts hand wire after new (step_of (event_row p) (at_event p))
-each_event_keeps_the_windows transacts device base member windows sent lines parts hand p wire new after fixed bus ring all heard lead =
+each_event_keeps_the_windows transacts device base member windows sent lines parts hand p wire new after fixed bus ring all high heard lead =
     let h : Happens transacts base member parts hand wire after new (step_of (event_row p) (at_event p)) = each_event transacts base member parts hand p wire new after ring heard lead in
-    let r = rest_by transacts device bus member windows sent fixed lines parts hand p.walk.reply wire ring.members ring.in_hand all after h.now h.later (step_of (event_row p) (at_event p)) h.effect in
+    let r = rest_by transacts device bus member windows sent fixed lines parts hand p.walk.reply wire ring.members ring.in_hand all high after h.now h.later (step_of (event_row p) (at_event p)) h.effect in
     record { event = h; step = r.step; all = r.windows_are; is = r.is; halted = r.halted }
 
 pub each_window_is_right : {W : Type 0} (device : W → ℕ → ℕ → Option Device) (member windows : ℕ → Bool) (sent : ℕ → Queue) (lines : ℕ → Lines) (parts : StructureSets) (hand : Hand) (wire : W) (n i : ℕ) → AreWindows device member windows sent lines parts hand wire → windows n ≡ true

@@ -35,7 +35,7 @@ host_back c z packets = ap (λ (m : ℕ). record z.host { max = m }) (sym packet
 
 pub endpoint_back : (e : Endpoint) (c : Copy) (z : Settlement) → IsEndpoint e c.queue → IsEndpoint e (queue_written c z)
 unfolding moved settled_queue
-endpoint_back e c z is = record { toggles = is.toggles; high = is.high; address = is.address; number = is.number; packets = is.packets }
+endpoint_back e c z is = record { toggles = is.toggles; address = is.address; number = is.number; packets = is.packets }
 
 active_back : (c : Copy) (z : Settlement) → (moved (settled_queue_of c z) (moved_by z.outcome)).token.active ≡ z.host.active
 unfolding moved settled_queue

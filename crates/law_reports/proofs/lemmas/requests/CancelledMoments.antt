@@ -45,7 +45,7 @@ texts_tell_of_cancelled text s spelled n =
           told = driver_keeps_cancelled g (fixed_of s) (pipes_of s) v asks w h.high h.told;
         };
       controller = λ w v asks h.
-          let new = controller_keeps_high_asks g (fixed_of s) (pipes_of s) v asks w h.high in
+          let new = controller_keeps_high_asks g (fixed_of s) (pipes_of s) v asks w (λ speed on. on) h.high in
           record { high = new; told = controller_keeps_cancelled g (fixed_of s) (pipes_of s) v asks w h.high new h.told };
       command = λ w line cmd v asks can room h.
           let new = command_keeps_high_asks g (fixed_of s) (pipes_of s) v asks w line cmd can.fits can.declares can.suits can.bytes room

@@ -20,7 +20,7 @@ use Rattle.law_reports.proofs.lemmas.pipes.Controlled.{c, controlled, lines_then
 use Rattle.law_reports.specs.requests.Asking.{Sides, Asking, AsksIn, HasAsks}
 use Rattle.law_reports.specs.requests.Footing.{IsFooting}
 use Rattle.law_reports.specs.requests.QueueEvents.{courses_after}
-use Rattle.law_reports.specs.requests.HighAsking.{told_world, told_standing, told_streams, AreSuited, AsksAt}
+use Rattle.law_reports.specs.requests.HighAsking.{told_world, told_standing, told_streams, AreSuited, AsksHigh, AsksAt}
 use Rattle.law_reports.specs.requests.HighLaws.{ControllerKeepsHighAsks}
 use Rattle.law_reports.proofs.lemmas.requests.Assembled.{RequestsGoOn, assembled}
 use Rattle.law_reports.proofs.lemmas.requests.HighFooting.{high_footing}
@@ -30,13 +30,14 @@ use Rattle.law_reports.proofs.lemmas.requests.HighWindows.{windows_told}
 
 module _ (g : Sides) (fixed : Fixed) (x : Pipes) (s : Standing) (m : Lines) (h : Heads) (w : World) (k : IsPiped fixed x s m h w)
     (f : IsFooting s.near (told_streams s) (told_standing s m) (told_world w)) (head : h.ends (32 * head_block) ≡ endpoint_of opening_head)
-    (suited : AreSuited g w.driver) (a : Asking) (v : Windows) (asks : ℕ → Request) (q : AsksAt g fixed s a v asks w) where
+    (suited : AreSuited g w.driver) (fast : AsksHigh g) (a : Asking) (v : Windows) (asks : ℕ → Request)
+    (q : AsksAt g fixed s a v asks w) where
   goes_on : BothEffect begins_by transacts_by (both s.descs s.parts) w.control s.hand s.frame (wired fixed w)
       (wired fixed (controller_next fixed w)) (c fixed x s m h w k).event.now (c fixed x s m h w k).event.later
       (c fixed x s m h w k).event.frame_later
       → RequestsGoOn g fixed s.near s.parts s.hand a v asks (told_world w) (now g fixed x s m h w k f head suited a v asks q)
       (later g fixed x s m h w k f head suited a v asks q)
-  goes_on (of_ring e nothing) = ring_goes_on g fixed x s m h w k f head suited a v asks q e
+  goes_on (of_ring e nothing) = ring_goes_on g fixed x s m h w k f head suited a v asks q fast e
   goes_on (of_frame e) = frame_goes_on g fixed x s m h w k f head suited a v asks q e
 
   abbrev Then : Type 0
@@ -60,10 +61,10 @@ module _ (g : Sides) (fixed : Fixed) (x : Pipes) (s : Standing) (m : Lines) (h :
   controlled_asks = asks_by (goes_on (c fixed x s m h w k).event.effect)
 
 pub controller_keeps_high_asks : ControllerKeepsHighAsks
-controller_keeps_high_asks g fixed x v asks w z =
+controller_keeps_high_asks g fixed x v asks w fast z =
     let f : IsFooting z.standing.near (told_streams z.standing) (told_standing z.standing z.lines) (told_world w) =
     high_footing g fixed x z.standing z.lines z.heads w z.piped z.head z.suited in
-    let q = controlled_asks g fixed x z.standing z.lines z.heads w z.piped f z.head z.suited z.asking v asks z.world in
+    let q = controlled_asks g fixed x z.standing z.lines z.heads w z.piped f z.head z.suited fast z.asking v asks z.world in
     record {
       standing = standing_then z.standing w (c fixed x z.standing z.lines z.heads w z.piped).event;
       lines = lines_then fixed x z.standing z.lines z.heads w z.piped;

@@ -70,7 +70,7 @@ module _ (s : Script) (x : EpDesc) (fits : FitsKind x) (below : is_some x.hub �
       (subst (λ (y : EpDesc). is_of_device s y ≡ true) same device)))
 
   pub suited : IsSuited (high_sides_of s) x
-  suited = record { name = named.name; below = below; high = fast; given = given }
+  suited = record { name = named.name; below = below; speed = fast; given = given }
 
 -- ---- a line
 
@@ -140,4 +140,4 @@ sample_suits = (
 
 -- a device at low speed stands behind a hub
 pub slow_unsuited : IsSuited (high_sides_of beside_interrupt) (record zero { speed = speeds.Low }) → ⊥
-slow_unsuited k = false≢true (k.high refl)
+slow_unsuited k = false≢true (k.speed refl)

@@ -65,7 +65,7 @@ texts_have_high_asks text s spelled n =
     (new_world_high_asks s (high_sides_of s) (spelled_fits text s spelled) bytes (λ addr num c first. first))
     (record {
       driver = λ w v asks h. driver_keeps_high_asks (high_sides_of s) (fixed_of s) (pipes_of s) v asks w h;
-      controller = λ w v asks h. controller_keeps_high_asks (high_sides_of s) (fixed_of s) (pipes_of s) v asks w h;
+      controller = λ w v asks h. controller_keeps_high_asks (high_sides_of s) (fixed_of s) (pipes_of s) v asks w (λ speed on. on) h;
       command = λ w line cmd v asks can room h.
           command_keeps_high_asks (high_sides_of s) (fixed_of s) (pipes_of s) v asks w line cmd can.fits can.declares can.suits can.bytes
           room h;

@@ -57,7 +57,7 @@ use Rattle.law_reports.specs.requests.Asking.{Sides, Asking, HasAsks, AsksIn}
 use Rattle.law_reports.specs.requests.Footing.{IsFooting}
 use Rattle.law_reports.specs.requests.HighAsking.{told_world, told_standing, told_streams, AreSuited, AsksAt}
 use Rattle.law_reports.proofs.lemmas.requests.HighAlike.{is_alike_in, alike_asks}
-use Rattle.law_reports.proofs.lemmas.requests.HighSteps.{told_as_is}
+use Rattle.law_reports.proofs.lemmas.requests.HighSteps.{told_but_speed}
 use Rattle.law_reports.proofs.lemmas.requests.Leaving.{IsQuiet, idle_quiet, open_quiet}
 use Rattle.law_reports.proofs.lemmas.requests.NewHeads.{IsHeadOf, IsNewHead, only_dummy}
 use Rattle.law_reports.proofs.lemmas.requests.OpenLending.{open_lent_asks}
@@ -145,7 +145,7 @@ module _ (g : Sides) (fixed : Fixed) (x : Pipes) (s : Standing) (m : Lines) (h :
       ep = ap (λ (n : EpName). n.num) (sym name_is);
     }
 
-    -- ---- a control endpoint at high speed
+    -- ---- a control endpoint
 
     module _ (on : g.asks at.endpoint.desc ≡ true) where
       control_told_is : is_control at.endpoint.desc.kind ≡ true
@@ -176,10 +176,8 @@ module _ (g : Sides) (fixed : Fixed) (x : Pipes) (s : Standing) (m : Lines) (h :
           off_frames kinds.Control on = refl
           off_frames _ on = absurd (false≢true on)
 
-      desc_is : queued_desc y.desc ≡ y.desc
-      desc_is =
-          told_as_is y.desc (k.mixed.turns.kinds_fit at.number y own.here) way_control
-          ((suited at.number y own.here).high (ap (λ (z : Endpoint). g.asks z.desc) (sym as_told) ∙ on))
+      desc_is : record (queued_desc y.desc) { speed = y.desc.speed } ≡ y.desc
+      desc_is = told_but_speed y.desc (k.mixed.turns.kinds_fit at.number y own.here) way_control
 
       linked : y.linked ≡ true
       linked = sym (linked_still y in_ring) ∙ ap (λ (z : Endpoint). z.linked) (sym as_told) ∙ at.fresh
@@ -195,6 +193,7 @@ module _ (g : Sides) (fixed : Fixed) (x : Pipes) (s : Standing) (m : Lines) (h :
           subst (λ (z : Endpoint). (b : ℕ)
           → s.parts (32 * z.queue) b ≡ opened_part (runs_of_endpoint z) (queue_head z.desc l.link z.dummy) b) is l.part in
           record {
+            speed = y.desc.speed;
             link = l.link;
             here = part (32 * y.queue)
                 ∙ part_head runs (queue_head y.desc l.link y.dummy) dummy_apart

@@ -1,6 +1,7 @@
 -- An event of the ring, in a world with endpoints of every kind: its walk is over the structures of queues alone, and its requests are
 -- those of the ring.
 use Rattle.std.proofs.Common.{◌≡◌, ℕ, ◌*◌, true, false, slice_get, Option, Some, ap, refl, sym, subst, ◌∙◌}
+use Rattle.usb_base.specs.declared.packets.Speed.TheVariants.{High}
 use Rattle.law_reports.proofs.Common.{queue_still, has_still}
 use Rattle.bus_wire.specs.Bus.{Wired, Fixed}
 use Rattle.op_registers.specs.RegisterFile.{RegisterFile}
@@ -12,7 +13,7 @@ use Rattle.hc_core.specs.Controller.{Content, content, walk_place}
 use Rattle.claims_base.specs.Controller.{Base, opening_base}
 use Rattle.claims_driver.specs.Owners.{views_of}
 use Rattle.drv_table.specs.declared.content.Endpoint.{Endpoint}
-use Rattle.drv_table.specs.Words.{is_control, head_block, opening_head}
+use Rattle.drv_table.specs.Words.{is_control, head_block, opening_head, speed_field}
 use Rattle.law_driver.specs.queued_drivers.Queued.{queued}
 use Rattle.law_driver_ring.specs.fed_queues.Places.{IsMet}
 use Rattle.law_structures.specs.lent_structures.Structures.{StructureSets}
@@ -32,7 +33,7 @@ use Rattle.law_descriptors.specs.Meeting.{met}
 use Rattle.law_descriptors.proofs.QueueQueues.{effect_is_of_queues, parts_same}
 use Rattle.law_descriptors.proofs.Rings.{list_is_of_queues}
 use Rattle.law_ring.specs.walk_writes.Writes.{WritesLent}
-use Rattle.law_devices.specs.ring_requests.Windows.{Queue, IsElsewhere, Step}
+use Rattle.law_devices.specs.ring_requests.Windows.{Queue, IsElsewhere, AreHigh, Step}
 use Rattle.law_devices.specs.scripted_requests.Controls.{transacts_by, begins_by}
 use Rattle.law_devices.proofs.lemmas.scripted_requests.Asking.{a_scripted_bus_answers_by_stages}
 use Rattle.law_devices.proofs.lemmas.scripted_requests.Beginning.{keeps_devices}
@@ -46,21 +47,23 @@ use Rattle.law_world.proofs.lemmas.memory.HarvestKept.{describes}
 use Rattle.law_world.proofs.lemmas.steps.StreamTurning.{world_has_row}
 use Rattle.law_reports.specs.lines.Lined.{Lines}
 use Rattle.law_reports.specs.pipes.Declared.{Sides as Pipes}
-use Rattle.law_reports.specs.pipes.Piped.{Heads, IsPiped}
+use Rattle.law_reports.specs.pipes.Piped.{Heads, asked_as, IsPiped}
 use Rattle.law_reports.proofs.lemmas.pipes.Controlled.{c, controlled, lines_then}
 use Rattle.law_reports.proofs.lemmas.pipes.Names.{queue_same, WasQueued, was_queued}
 use Rattle.law_reports.specs.requests.world_requests.Requesting.{IsWalked, RingGoesOn}
-use Rattle.law_reports.specs.requests.Courses.{Course, IsCourse, queues, have_queues, CoursesStand}
+use Rattle.law_reports.specs.requests.Courses.{Course, IsCourse, queues, have_queues, are_asking, CoursesStand}
 use Rattle.law_reports.specs.requests.QueueEvents.{courses_after, course_after, CoursesGoOn}
 use Rattle.law_reports.specs.requests.TransferEvents.{IsLeftAlone, IsOwned}
 use Rattle.law_reports.specs.requests.Asking.{Sides, Asking, has_left}
 use Rattle.law_reports.specs.requests.Footing.{IsFooting}
-use Rattle.law_reports.specs.requests.HighAsking.{told_world, told_standing, told_streams, AreSuited, AsksAt}
+use Rattle.law_reports.specs.requests.HighAsking.{told_world, told_standing, told_streams, AreSuited, AsksHigh, AsksAt}
 use Rattle.law_reports.proofs.lemmas.requests.lemmas.driver_requests.Commands.{chained_have_qtds}
 use Rattle.law_reports.proofs.lemmas.requests.Assembled.{RequestsGoOn, done_still, event_unmissed}
 use Rattle.law_reports.proofs.lemmas.requests.Beside.{HasOwner, owner_of}
 use Rattle.law_reports.proofs.lemmas.requests.Coming.{event_coming}
 use Rattle.law_reports.proofs.lemmas.requests.HighDevices.{device_unopened, left_waits}
+use Rattle.law_reports.proofs.lemmas.requests.Courses.{asks_has}
+use Rattle.law_reports.proofs.lemmas.requests.HighSteps.{desc_same, high_is}
 use Rattle.law_reports.proofs.lemmas.requests.HighFooting.{ring_of, wider, control_member, real_control, named_by}
 use Rattle.law_reports.proofs.lemmas.requests.Names.{one_endpoint}
 use Rattle.law_reports.proofs.lemmas.requests.QueueEvents.{event_keeps}
@@ -175,9 +178,32 @@ module _ (g : Sides) (fixed : Fixed) (x : Pipes) (s : Standing) (m : Lines) (h :
       each_event_of_the_controller_writes_lent_words begins_by transacts_by (controller_parts w) wire (controller_parts new) after
       (aligned_placed (controller_parts w) k.mixed.now.framed.aligned) (world_has_row fixed w)
 
+  -- ---- those that ask are of high speed
+
+  are_high : AsksHigh g → AreHigh (are_asking a.courses) s.parts
+  are_high fast n c on here =
+      let has : have_queues a.courses n ≡ true = asks_has (a.courses n) on in
+      let o : HasOwner g (told_world w) a n =
+      owner_of g fixed s.near (told_streams s) (told_standing s m) a v asks (told_world w) f q n has in
+      let t : WasQueued w.driver.endpoints o.number o.endpoint = was_queued w.driver.endpoints o.number o.endpoint o.control.is.here in
+      let speed : t.endpoint.desc.speed ≡ High =
+      high_is t.endpoint.desc.speed
+      (fast t.endpoint.desc.speed
+      ((suited o.number t.endpoint t.here).speed
+      (ap g.asks (sym (ap (λ (y : Endpoint). y.desc) t.is ∙ desc_same t.endpoint)) ∙ o.control.is.control))) in
+      let ends : h.ends n ≡ asked_as t.endpoint.desc =
+      ap h.ends (o.at ∙ ap (λ (y : Endpoint). 32 * y.queue) t.is ∙ ap (λ (b : ℕ). 32 * b) (queue_same t.endpoint))
+      ∙ k.named o.number t.endpoint t.here (subst (IsMet (queued w.driver) o.number) t.is o.control.met) in
+      ap (λ (y : Characteristics). y.speed)
+      (one_endpoint s.parts n (endpoint_of c) (h.ends n) (record { queue = c; head = here; is = refl })
+      (named_by g fixed x s m h w k head suited n (q.stand.members n has))
+      ∙ ends)
+      ∙ ap speed_field speed
+
   -- ---- an event of the ring
 
-  module _ (e : ControlEffect begins_by transacts_by (both s.descs s.parts) s.hand (wired fixed w) (wired fixed (controller_next fixed w))
+  module _ (fast : AsksHigh g) (e : ControlEffect begins_by transacts_by (both s.descs s.parts) s.hand (wired fixed w)
+      (wired fixed (controller_next fixed w))
       (c fixed x s m h w k).event.now (c fixed x s m h w k).event.later) where
     of_queues : ControlEffect begins_by transacts_by (both s.descs s.parts) s.hand (wired fixed w) (wired fixed (controller_next fixed w))
         (c fixed x s m h w k).event.now (c fixed x s m h w k).event.later
@@ -249,7 +275,7 @@ module _ (g : Sides) (fixed : Fixed) (x : Pipes) (s : Standing) (m : Lines) (h :
     goes : CoursesGoOn control_of s.member a.courses (of_queues e)
     goes =
         event_keeps begins_by transacts_by control_of quiet_base s.member a.courses s.parts s.hand quiet_content wire after now later
-        (of_queues e) a_scripted_bus_answers_by_stages keeps_devices quiet narrow_stand
+        (of_queues e) a_scripted_bus_answers_by_stages keeps_devices quiet (are_high fast) narrow_stand
 
     owned : IsOwned (queued w.driver) s.parts
     owned = record { owners = f.owners; qtds = chained_have_qtds (queued w.driver) f.turns.chained; driven = f.driven }

@@ -26,6 +26,7 @@ use Rattle.drv_table.specs.declared.rows.Found.{Found}
 use Rattle.drv_table.specs.declared.rows.Found.TheVariants as founds
 use Rattle.drv_table.specs.DriverContent.{DriverContent}
 use Rattle.drv_table.specs.Harvests.{note_at, token_in, found_in}
+use Rattle.drv_table.specs.Kinds.{is_iso}
 use Rattle.drv_table.specs.Parts.{Parts}
 use Rattle.drv_table.specs.Rows.{driver_row, after_driver_row}
 use Rattle.drv_table.specs.Words.{is_control, is_high, queue_head_link}
@@ -33,7 +34,7 @@ use Rattle.law_driver.specs.run_owners.Due.{IsHarvestDue}
 use Rattle.law_driver.specs.chained_transfers.AsynchronousTurns.{AsynchronousTakesTurns}
 use Rattle.law_driver.proofs.lemmas.chained_transfers.Harvested.{not_served}
 use Rattle.law_driver.proofs.lemmas.chained_transfers.Ways.{found_by, moves_queued}
-use Rattle.law_driver.specs.queued_drivers.Queued.{with_queue, queued_desc, queued_kind, sort_of_queue, queued_transfer, queued_command}
+use Rattle.law_driver.specs.queued_drivers.Queued.{with_queue, without_queue, queued_endpoint, queued_desc, queued_kind, sort_of_queue, queued_transfer, queued_command}
 use Rattle.law_driver.specs.queued_drivers.Queued.{queued, IsOfWay}
 use Rattle.law_driver.specs.queued_drivers.Rows.{IsOfQueues}
 use Rattle.law_driver.proofs.lemmas.queued_drivers.RowEvents.{idle_told}
@@ -99,21 +100,36 @@ publish_not_chain c xs b words told is =
 
 -- ---- a high-speed control endpoint is told as it is
 
+pub desc_same : (y : Endpoint) → (queued_endpoint y).desc ≡ queued_desc y.desc
+desc_same y = by (is_iso y.desc.kind)
+  where
+    by : (b : Bool) → (if b then without_queue y else with_queue y).desc ≡ queued_desc y.desc
+    by true = refl
+    by false = refl
+
+control_way : (way : Way) → is_control (queued_kind way) ≡ true → way ≡ ways.Ctl
+control_way ways.Ctl on = refl
+control_way ways.In on = absurd (false≢true on)
+control_way ways.Out on = absurd (false≢true on)
+
 pub high_is : (speed : Speed) → is_high speed ≡ true → speed ≡ speeds.High
 high_is speeds.High on = refl
 high_is _ on = absurd (false≢true on)
 
+-- .. and one of another speed but for that
+pub told_but_speed : (x : EpDesc) → IsOfWay x.name.way x.kind → is_control (queued_kind x.name.way) ≡ true
+    → record (queued_desc x) { speed = x.speed } ≡ x
+told_but_speed x fits control =
+    let way : x.name.way ≡ ways.Ctl = control_way x.name.way control in
+    let kind : queued_kind x.name.way ≡ x.kind = ap queued_kind way ∙ sym (subst (λ (u : Way). IsOfWay u x.kind) way fits) in
+    λ i. record x { kind = kind i }
+
 pub told_as_is : (x : EpDesc) → IsOfWay x.name.way x.kind → is_control (queued_kind x.name.way) ≡ true → is_high x.speed ≡ true
     → queued_desc x ≡ x
 told_as_is x fits control high =
-    let way : x.name.way ≡ ways.Ctl = by x.name.way control in
+    let way : x.name.way ≡ ways.Ctl = control_way x.name.way control in
     let kind : queued_kind x.name.way ≡ x.kind = ap queued_kind way ∙ sym (subst (λ (u : Way). IsOfWay u x.kind) way fits) in
     λ i. record x { kind = kind i; speed = sym (high_is x.speed high) i }
-  where
-    by : (way : Way) → is_control (queued_kind way) ≡ true → way ≡ ways.Ctl
-    by ways.Ctl on = refl
-    by ways.In on = absurd (false≢true on)
-    by ways.Out on = absurd (false≢true on)
 
 module _ (g : Sides) (fixed : Fixed) (x : Pipes) (s : Standing) (m : Lines) (h : Heads) (w : World) (k : IsPiped fixed x s m h w)
     (f : IsFooting s.near (told_streams s) (told_standing s m) (told_world w)) (suited : AreSuited g w.driver)

@@ -9,6 +9,7 @@ use Rattle.hc_copy.specs.Planning.{host_in}
 use Rattle.drv_table.specs.declared.content.Endpoint.{Endpoint}
 use Rattle.drv_table.specs.declared.content.Transfer.{Transfer}
 use Rattle.drv_table.specs.DriverContent.{waits_for}
+use Rattle.usb_base.specs.declared.packets.Speed.{Speed}
 use Rattle.drv_table.specs.Words.{queue_head, dummy_qtd}
 use Rattle.law_driver.specs.chained_transfers.Turns.{Turn, turn_of, turn_in, AreReportedTo}
 use Rattle.law_structures.specs.lent_structures.Structures.{StructureSets, QueueHead, Element, with_structure}
@@ -92,15 +93,17 @@ pub record IsHeadOf (parts : StructureSets) (x : Endpoint) : Type 0 where
 
 -- .. and of a control endpoint all that stands of it
 pub record IsNewHead (parts : StructureSets) (x : Endpoint) : Type 0 where
+  pub speed : Speed  -- that of the device
   pub link : ℕ
-  pub here : parts (32 * x.queue) (32 * x.queue) ≡ Some (QueueHead (queue_head x.desc link x.dummy))
+  pub here : parts (32 * x.queue) (32 * x.queue) ≡ Some (QueueHead (queue_head (record x.desc { speed = speed }) link x.dummy))
   pub tail : parts (32 * x.queue) (32 * x.dummy) ≡ Some (Element dummy_qtd)
   pub only : (a : ℕ) (t : Qtd) → parts (32 * x.queue) a ≡ Some (Element t) → t ≡ dummy_qtd
 
 pub record IsNewNow (now : StructureSets) (x : Endpoint) : Type 0 where
+  pub speed : Speed
   pub queue : Qh
   pub here : now (32 * x.queue) (32 * x.queue) ≡ Some (QueueHead queue)
-  pub end : endpoint_of queue ≡ endpoint_of (queue_head x.desc 0 x.dummy)
+  pub end : endpoint_of queue ≡ endpoint_of (queue_head (record x.desc { speed = speed }) 0 x.dummy)
   pub idle : queue.token.active ≡ false
   pub unset : queue.token.missed ≡ false
   pub leads : qtd_link_of (next_pointer queue) ≡ To (32 * x.dummy)

@@ -16,7 +16,7 @@ use Rattle.drv_table.specs.declared.content.Endpoint.{Endpoint}
 use Rattle.drv_table.specs.declared.content.Transfer.{Transfer}
 use Rattle.drv_table.specs.DriverContent.{DriverContent}
 use Rattle.drv_table.specs.Harvests.{note_at}
-use Rattle.drv_table.specs.Words.{speed_field, queue_head, dummy_qtd}
+use Rattle.drv_table.specs.Words.{queue_head, dummy_qtd}
 use Rattle.law_driver.specs.endpoint_lives.Lives.{told_end}
 use Rattle.law_driver.proofs.lemmas.chained_transfers.Staying.{linked_stands_alive}
 use Rattle.law_driver_ring.specs.fed_queues.Places.{IsMet}
@@ -355,11 +355,12 @@ module _ (g : Sides) (fixed : Fixed) (member : ℕ → Bool) (x : Streams) (s : 
     own_head : IsNewNow now e
     own_head =
         let f : IsNewHead s.parts e = new_head on in
-        let r : IsRelinked (now n) n (queue_head e.desc f.link e.dummy) = (same n).head (queue_head e.desc f.link e.dummy) f.here in
-        record { queue = record (queue_head e.desc f.link e.dummy) { link = r.link }; here = r.here; end = refl; idle = refl; unset = refl; leads = refl }
+        let c : Qh = queue_head (record e.desc { speed = f.speed }) f.link e.dummy in
+        let r : IsRelinked (now n) n c = (same n).head c f.here in
+        record { speed = f.speed; queue = record c { link = r.link }; here = r.here; end = refl; idle = refl; unset = refl; leads = refl }
 
     abbrev q : Qh
-    q = queue_head e.desc 0 e.dummy
+    q = queue_head (record e.desc { speed = own_head.speed }) 0 e.dummy
 
     rest : IsAtRest (g.endpoint e.desc) given.stages b held now n (control_of wire (g.endpoint e.desc).addr (g.endpoint e.desc).num)
     rest = record {
@@ -367,7 +368,6 @@ module _ (g : Sides) (fixed : Fixed) (member : ℕ → Bool) (x : Streams) (s : 
       head = own_head.here;
       control = endpoint_same (g.endpoint e.desc) q own_head.queue own_head.end (record {
         toggles = g.controls e.desc on;
-        high = ap speed_field (k.turns.asynchronous.endpoints place e here).asynchronous.speed;
         address = sym given.address;
         number = sym given.number;
         packets = sym given.max;

@@ -24,7 +24,7 @@ use Rattle.law_ring.specs.Told.{Told, hand_bytes, HasEndpoint, endpoint_of, Endp
 use Rattle.law_ring.proofs.Ordering.{not_worked, works_by}
 use Rattle.law_controller.specs.controlled_streams.Control.{IsControlled, ControlEffect, a_microframe, a_step}
 use Rattle.law_devices.specs.ring_requests.Shown.{AreFresh}
-use Rattle.law_devices.specs.ring_requests.Windows.{Queue, sent_at, Lines, IsQueue, IsBehind, IsElsewhere}
+use Rattle.law_devices.specs.ring_requests.Windows.{Queue, sent_at, Lines, IsQueue, IsBehind, IsElsewhere, AreHigh}
 use Rattle.law_devices.specs.ring_requests.Resting.{IsOtherEndpoint, IsAlone}
 use Rattle.law_devices.specs.control_requests.Rests.{ControlRestStays}
 use Rattle.law_devices.proofs.lemmas.control_requests.Keeping.{Rest, rest_of}
@@ -55,7 +55,7 @@ module _ (hand later : Hand) (parts now : StructureSets) (n : ℕ) (same : now n
     none_told = λ some. told_still (v.places i).data_at [] (k.none_told some);
   }
 
-module _ {W : Type 0} (begins : W → ℕ → Bool → W → Type 0) (transacts : W → Ask → List ℕ → Reply → W → Type 0) (device : W → ℕ → ℕ → Option Device) (base : Base) (member : ℕ → Bool) (courses : ℕ → Course) (parts : StructureSets) (hand : Hand) (content : Content) (wire after : W) (now : StructureSets) (later : Hand) (effect : ControlEffect begins transacts parts hand wire after now later) (bus : IsControlBus transacts device) (keeps : KeepsDevices begins device) (controlled : IsControlled base member parts hand content) (stand : CoursesStand device member courses parts hand wire) where
+module _ {W : Type 0} (begins : W → ℕ → Bool → W → Type 0) (transacts : W → Ask → List ℕ → Reply → W → Type 0) (device : W → ℕ → ℕ → Option Device) (base : Base) (member : ℕ → Bool) (courses : ℕ → Course) (parts : StructureSets) (hand : Hand) (content : Content) (wire after : W) (now : StructureSets) (later : Hand) (effect : ControlEffect begins transacts parts hand wire after now later) (bus : IsControlBus transacts device) (keeps : KeepsDevices begins device) (controlled : IsControlled base member parts hand content) (high : AreHigh (are_asking courses) parts) (stand : CoursesStand device member courses parts hand wire) where
   abbrev asking : ℕ → Bool
   asking = are_asking courses
 
@@ -66,10 +66,10 @@ module _ {W : Type 0} (begins : W → ℕ → Bool → W → Type 0) (transacts 
   lines = all_lines courses
 
   abbrev asked : Rest begins transacts device base member (are_asking courses) (queues courses) (sent_are device member courses parts hand wire stand) bus keeps (all_lines courses) parts hand content wire controlled
-      (windows_are device member courses parts hand wire stand) after now later effect
+      (windows_are device member courses parts hand wire stand) high after now later effect
   asked =
       rest_of begins transacts device base member (are_asking courses) (queues courses) (sent_are device member courses parts hand wire stand) bus keeps (all_lines courses) parts hand content wire controlled
-      (windows_are device member courses parts hand wire stand) after now later effect
+      (windows_are device member courses parts hand wire stand) high after now later effect
 
   -- ---- one that asks
 
@@ -159,8 +159,8 @@ module _ {W : Type 0} (begins : W → ℕ → Bool → W → Type 0) (transacts 
   }
 
 pub event_keeps : {W : Type 0} (begins : W → ℕ → Bool → W → Type 0) (transacts : W → Ask → List ℕ → Reply → W → Type 0) (device : W → ℕ → ℕ → Option Device) → EventKeepsCourses begins transacts device
-event_keeps begins transacts device base member courses parts hand content wire after now later effect bus keeps controlled stand =
-    go_on begins transacts device base member courses parts hand content wire after now later effect bus keeps controlled stand
+event_keeps begins transacts device base member courses parts hand content wire after now later effect bus keeps controlled high stand =
+    go_on begins transacts device base member courses parts hand content wire after now later effect bus keeps controlled high stand
 
 -- ---- a device that isn't asked
 

@@ -46,7 +46,7 @@ halted_rests : IsAtRest described (opened 64 0) 160 Empty halted_parts 32 (devic
 halted_rests = record {
   queue = stalled_queue;
   head = refl;
-  control = record { toggles = refl; high = refl; address = refl; number = refl; packets = refl };
+  control = record { toggles = refl; address = refl; number = refl; packets = refl };
   idle = refl;
   unsettled = refl;
   leads = λ goes_on. absurd (false≢true (sym goes_on));

@@ -20,7 +20,7 @@ use Rattle.claims_report.specs.Requests.{Request, Window}
 use Rattle.law_request.specs.Host.{Endpoint, Setup}
 use Rattle.law_ring.specs.Hand.{Hand}
 use Rattle.claims_base.specs.Controller.{Base}
-use Rattle.law_devices.specs.ring_requests.Windows.{Queue, Lines, stage_of, stepped}
+use Rattle.law_devices.specs.ring_requests.Windows.{Queue, Lines, AreHigh, stage_of, stepped}
 use Rattle.law_devices.specs.ring_requests.Runs.{first_of}
 use Rattle.bus_world.specs.World.{World, controller_next}
 use Rattle.law_reports.specs.requests.world_requests.Requesting.{IsRequesting, HearsBytesNow, StaysRequesting}
@@ -76,7 +76,7 @@ pub record StaysRecorded (fixed : Fixed) (base : Base) (member windows : ℕ →
 
 abbrev pub RecorderFollows : Type 0
 RecorderFollows = (fixed : Fixed) (base : Base) (member windows : ℕ → Bool) (sent : ℕ → Queue) (parts : StructureSets) (hand : Hand) (lines : ℕ → Lines) (endpoint : ℕ → ℕ)
-    (number : ℕ → ℕ → ℕ) (w : World) (v : Windows) → HearsBytesNow fixed w → IsRequesting fixed base member windows sent parts hand lines w → AreTransfers w.driver windows sent lines parts endpoint number
+    (number : ℕ → ℕ → ℕ) (w : World) (v : Windows) → HearsBytesNow fixed w → IsRequesting fixed base member windows sent parts hand lines w → AreHigh windows parts → AreTransfers w.driver windows sent lines parts endpoint number
     → IsRecorded windows sent endpoint number lines v → StaysRecorded fixed base member windows sent endpoint number lines w v
 
 -- ---- what is told of an endpoint

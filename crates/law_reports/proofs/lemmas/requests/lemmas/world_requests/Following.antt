@@ -27,7 +27,7 @@ use Rattle.law_controller.specs.controlled_streams.Control.{ControlEffect, a_mic
 use Rattle.law_devices.specs.ring_requests.Laid.{Places, place_at}
 use Rattle.law_devices.specs.ring_requests.Shown.{hand_side, Works, Shows}
 use Rattle.law_devices.specs.ring_requests.Shown.Shows.{works, waits, halts}
-use Rattle.law_devices.specs.ring_requests.Windows.{Queue, Lines, IsQueue, Progress, Transaction, Advance, Step, opened, progressed, stepped, stage_of, is_done, IsStepOf}
+use Rattle.law_devices.specs.ring_requests.Windows.{Queue, Lines, IsQueue, AreHigh, Progress, Transaction, Advance, Step, opened, progressed, stepped, stage_of, is_done, IsStepOf}
 use Rattle.law_devices.specs.control_requests.Events.{IsControlStepOf, ControlWindowsGoOn}
 use Rattle.law_devices.proofs.lemmas.control_requests.Keeping.{an_event_keeps_the_windows}
 use Rattle.claims_report.specs.Controls.{control_of}
@@ -259,13 +259,13 @@ module _ (fixed : Fixed) (base : Base) (member windows : ℕ → Bool) (sent : �
   event_kept (a_step s) is n on = effect_kept s.kind s.effect is n on
 
 pub recorder_follows : (fixed : Fixed) (base : Base) (member windows : ℕ → Bool) (sent : ℕ → Queue) (parts : StructureSets) (hand : Hand) (lines : ℕ → Lines) (endpoint : ℕ → ℕ) (number : ℕ → ℕ → ℕ) (w : World) (v : Windows)
-    → HearsBytesNow fixed w → IsRequesting fixed base member windows sent parts hand lines w → AreTransfers w.driver windows sent lines parts endpoint number → IsRecorded windows sent endpoint number lines v
+    → HearsBytesNow fixed w → IsRequesting fixed base member windows sent parts hand lines w → AreHigh windows parts → AreTransfers w.driver windows sent lines parts endpoint number → IsRecorded windows sent endpoint number lines v
     → StaysRecorded fixed base member windows sent endpoint number lines w v
-recorder_follows fixed base member windows sent parts hand lines endpoint number w v heard k t r =
+recorder_follows fixed base member windows sent parts hand lines endpoint number w v heard k high t r =
     let new : World = controller_next fixed w in
     let g : ControlWindowsGoOn begins_by transacts_by control_of base member windows sent lines parts hand (wired fixed w) (wired fixed new) (controller_parts new) =
     an_event_keeps_the_windows begins_by transacts_by control_of base member windows sent lines parts hand (controller_parts w) (wired fixed w) (controller_parts new) (wired fixed new)
-    k.are a_scripted_bus_answers_by_stages keeps_devices k.controlled k.on k.all (heard (wired fixed new)) (world_has_row fixed w) in
+    k.are a_scripted_bus_answers_by_stages keeps_devices k.controlled k.on k.all high (heard (wired fixed new)) (world_has_row fixed w) in
     let asked : AreAsked fixed base member windows sent parts hand lines w =
     record { walked = record { ring = k.controlled.ring; between = k.controlled.between }; all = k.all } in
     let goes : WindowsGoOn begins_by transacts_by control_of base member windows sent lines parts hand (wired fixed w) (wired fixed new)

@@ -22,7 +22,7 @@ use Rattle.law_devices.proofs.lemmas.scripted_requests.Asking.{a_scripted_bus_an
 use Rattle.law_devices.proofs.lemmas.scripted_requests.Beginning.{keeps_devices}
 use Rattle.law_structures.specs.lent_structures.Structures.{StructureSets}
 use Rattle.law_ring.specs.Hand.{Hand}
-use Rattle.law_devices.specs.ring_requests.Windows.{Queue, sent_at, Lines, HasEnded, IsActedOnce}
+use Rattle.law_devices.specs.ring_requests.Windows.{Queue, sent_at, Lines, HasEnded, IsActedOnce, AreHigh}
 use Rattle.law_devices.proofs.lemmas.ring_requests.Windows.{window_ended}
 use Rattle.bus_world.specs.World.{World, frame_by, sent_by, sends_by, walk_by, turned_by, controller_parts, controller_row, controller_next}
 use Rattle.claims_world.specs.Requests.{wired}
@@ -64,12 +64,12 @@ world_has_row fixed w = turned_has_row fixed (controller_row w) (controller_part
 
 -- ---- the windows
 
-pub the_controller_leaves_the_windows : (fixed : Fixed) (base : Base) (member windows : ℕ → Bool) (sent : ℕ → Queue) (parts : StructureSets) (hand : Hand) (lines : ℕ → Lines) (w : World) → HearsBytesNow fixed w → IsRequesting fixed base member windows sent parts hand lines w → StaysRequesting fixed base member windows sent lines (controller_next fixed w)
-the_controller_leaves_the_windows fixed base member windows sent parts hand lines w heard k =
+pub the_controller_leaves_the_windows : (fixed : Fixed) (base : Base) (member windows : ℕ → Bool) (sent : ℕ → Queue) (parts : StructureSets) (hand : Hand) (lines : ℕ → Lines) (w : World) → HearsBytesNow fixed w → IsRequesting fixed base member windows sent parts hand lines w → AreHigh windows parts → StaysRequesting fixed base member windows sent lines (controller_next fixed w)
+the_controller_leaves_the_windows fixed base member windows sent parts hand lines w heard k high =
     let new : World = controller_next fixed w in
     let g : ControlWindowsGoOn begins_by transacts_by control_of base member windows sent lines parts hand (wired fixed w) (wired fixed new) (controller_parts new) =
     an_event_keeps_the_windows begins_by transacts_by control_of base member windows sent lines parts hand (controller_parts w) (wired fixed w) (controller_parts new) (wired fixed new)
-    k.are a_scripted_bus_answers_by_stages keeps_devices k.controlled k.on k.all (heard (wired fixed new)) (world_has_row fixed w) in
+    k.are a_scripted_bus_answers_by_stages keeps_devices k.controlled k.on k.all high (heard (wired fixed new)) (world_has_row fixed w) in
     record { parts = g.event.now; hand = g.event.later; step = g.step; requesting = record { on = k.on; are = k.are; controlled = g.event.controlled; all = g.all }; halted = g.halted }
 
 pub world_ended : (fixed : Fixed) (base : Base) (member windows : ℕ → Bool) (sent : ℕ → Queue) (parts : StructureSets) (hand : Hand) (lines : ℕ → Lines) (w : World) (n i : ℕ) → IsRequesting fixed base member windows sent parts hand lines w → windows n ≡ true → i < (sent n).count → HasEnded (sent_at (sent n) i) parts n → IsActedOnce (sent_at (sent n) i) ((lines n).line i) hand parts n
