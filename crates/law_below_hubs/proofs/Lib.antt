@@ -46,6 +46,9 @@ pub mod RequestEvents
 pub mod RequestTaken
 pub mod RequestWindows
 pub mod RequestQueues
+pub mod RequestMoves
+pub mod RequestViews
+pub mod RequestTurns
 pub mod HostBegins
 pub mod HostAsks
 pub mod HostOpens
@@ -56,3 +59,4 @@ pub mod InEvents
 pub mod WorkedHosts
 pub mod WorkedRequests
 pub mod WorkedWindows
+pub mod WorkedMoves

@@ -13,7 +13,7 @@ use Rattle.law_below_hubs.specs.WorkedControl.{own, reading}
 use Rattle.law_below_hubs.specs.WorkedWindows.{sent, erred_queue, three_bytes, parts_with, WindowStands, HighBreaks, RequestsStand, NoneLeftBreaks}
 use Rattle.law_below_hubs.proofs.WorkedRequests.{answer_is_lost}
 
-none_leads : (part : Structures) → IsUnpublished part no_qtd
+pub none_leads : (part : Structures) → IsUnpublished part no_qtd
 none_leads part a t leads here = absurd cc
 
 later_fresh : (s : Stage) → comes reading Data s ≡ true → IsFresh own reading sent.places (parts_with erred_queue 32) s

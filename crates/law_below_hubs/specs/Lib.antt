@@ -24,8 +24,12 @@ pub mod HostRequests
 pub mod RequestEvents
 pub mod RequestWindows
 pub mod RequestQueues
+pub mod RequestMoves
+pub mod RequestViews
+pub mod RequestTurns
 pub mod HostEvents
 pub mod HostOpens
 pub mod WorkedHosts
 pub mod WorkedRequests
 pub mod WorkedWindows
+pub mod WorkedMoves

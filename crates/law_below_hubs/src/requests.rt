@@ -4,6 +4,10 @@ ghost use Rattle.law_below_hubs.specs.HostRequests.{RequestOpens, RequestRests, 
 ghost use Rattle.law_below_hubs.specs.RequestEvents.{EventLeavesRequest, EventLeavesRest};
 ghost use Rattle.law_below_hubs.specs.RequestWindows.{WalkKeepsWindow};
 ghost use Rattle.law_below_hubs.specs.RequestQueues.{WalkKeepsQueue};
+ghost use Rattle.law_below_hubs.specs.RequestMoves.{RingKeepsQueue, BesideKeepsQueue, RingKeepsRest, BesideKeepsRest};
+ghost use Rattle.law_below_hubs.specs.RequestMoves.{RingKeepsLeft, BesideKeepsLeft};
+ghost use Rattle.law_below_hubs.specs.RequestTurns.{RestOpensBelow, DoneRestsBelow};
+ghost use Rattle.law_below_hubs.specs.RequestViews.{BelowIsAsked, AskedIsBelow, RestIsAtRest, AtRestIsBelow, AtRestIsLeft};
 
 /// Each transaction of the request's host leaves all of them as they must stand in its window, with the host as the settlement says; so
 /// does each of another host, but for a request that clears the hub's buffers; and so does the work of the hubs where a microframe begins,
@@ -41,4 +45,37 @@ pub fn the_walk_keeps_a_window_below()
 /// behind it are laid out; where the one under way is done an advance begins the next.
 pub fn the_walk_keeps_requests_below()
     ensures { WalkKeepsQueue }
+{}
+
+/// So does each event of the controller: where a microframe begins the device makes one transaction or none, and what it acts on in it is
+/// of the window of the request under way; an event of the walk of the frames leaves the structures of the queue head.
+pub fn the_controller_keeps_requests_below()
+    ensures ring { RingKeepsQueue }
+    ensures beside { BesideKeepsQueue }
+{}
+
+/// Between two requests each event of the controller leaves the queue head idle, and hub and device as they were. After errors ended a
+/// request it leaves the queue head idle, and hub and device as they stand in its window: the device may still act on it, once.
+pub fn the_controller_keeps_a_rest_below()
+    ensures ring { RingKeepsRest }
+    ensures beside { BesideKeepsRest }
+    ensures ring_left { RingKeepsLeft }
+    ensures beside_left { BesideKeepsLeft }
+{}
+
+/// Memory and the copy in hand show the requests of a control endpoint below a hub as those of any queue head, with the device as the host
+/// has heard of it; with its hub they are those below it again, and so between two requests, and after errors.
+pub fn requests_below_are_asked_alike()
+    ensures asked { BelowIsAsked }
+    ensures below { AskedIsBelow }
+    ensures rests { RestIsAtRest }
+    ensures rests_below { AtRestIsBelow }
+    ensures left_below { AtRestIsLeft }
+{}
+
+/// Where a queue below a hub is at rest, the store of a SETUP at its end opens the window of its first request; and where memory shows that
+/// its last request has ended, the device acted on it exactly once, all its data are told, and the queue is at rest.
+pub fn a_queue_below_opens_and_rests()
+    ensures opens { RestOpensBelow }
+    ensures rests { DoneRestsBelow }
 {}

@@ -7,6 +7,7 @@ ghost use Rattle.law_below_hubs.specs.WorkedBelow.{StartIsTaken, ResultIsThere, 
 ghost use Rattle.law_below_hubs.specs.WorkedBelow.{enabled_below, disabled_below};
 ghost use Rattle.law_below_hubs.specs.WorkedControl as read;
 ghost use Rattle.law_below_hubs.specs.WorkedHosts as hosts;
+ghost use Rattle.law_below_hubs.specs.WorkedMoves as moves;
 ghost use Rattle.law_below_hubs.specs.WorkedPut as put;
 ghost use Rattle.law_below_hubs.specs.WorkedRequests as lossy;
 ghost use Rattle.law_below_hubs.specs.WorkedWindows as windows;
@@ -109,4 +110,16 @@ pub fn memory_shows_a_lossy_read()
     ensures high { windows.HighBreaks }
     ensures requests { windows.RequestsStand }
     ensures none_left { windows.NoneLeftBreaks }
+{}
+
+/// In the microframe after the lost ACK it goes on; before it nothing is asked of its endpoint, whose queue head is idle, and so it stays
+/// where a microframe begins; with a queue head that works it isn't so. Once its SETUP is stored there its window opens. Memory shows the
+/// read as that of any queue head, and this one isn't of high speed.
+pub fn a_lossy_read_goes_on()
+    ensures moves { moves.MovesOn }
+    ensures rests { moves.IsAtRest }
+    ensures working { moves.WorkingBreaks }
+    ensures opens { moves.Opens }
+    ensures alike { moves.AskedAlike }
+    ensures not_high { moves.NotHigh }
 {}
