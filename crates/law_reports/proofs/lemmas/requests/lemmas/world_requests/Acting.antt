@@ -70,7 +70,7 @@ acked_done e c = acked_by (stage_of (reply_under e.known c.request) c) c.request
 
 -- ---- a transaction
 
-device_acts : (e : Endpoint) (row : WhoHeard) (ask : Ask) (out : List ℕ) (c : Stages) → acted_between c (device_after e row ask out c) ≡ acts_by e row ask out c
+pub device_acts : (e : Endpoint) (row : WhoHeard) (ask : Ask) (out : List ℕ) (c : Stages) → acted_between c (device_after e row ask out c) ≡ acts_by e row ask out c
 device_acts e SentUnheard ask out c = none_acted c
 device_acts e AckHeard ask out c = ap (λ (b : Bool). acts_if b c.request) (acked_done e (answered e ask out c)) ∙ answer_acts e ask out c
 device_acts e _ ask out c = answer_acts e ask out c

@@ -1,0 +1,40 @@
+//! Control endpoints below hubs, in a world with endpoints of every kind (EHCI 1.0, 4.4 to 4.12; USB 2.0, 8.5.3, 11.17 and 11.18).
+ghost use Rattle.law_reports.specs.requests.below.Controlled.{MovesAreRecorded, ControllerKeepsQueueBelow, ControllerKeepsRestBelow};
+ghost use Rattle.law_reports.specs.requests.below.Controlled.{ControllerKeepsLeftBelow};
+ghost use Rattle.law_reports.specs.requests.below.Hubs.{IsBehindHub, TextsKeepHubs, TextsSpareHubs};
+ghost use Rattle.law_reports.specs.requests.below.Samples.{zero, StartsSpared};
+ghost use Rattle.law_reports.specs.pipes.hub_setups.Samples.{asked};
+ghost use Rattle.claims_world.specs.BelowStreams.{LeavesTranslator};
+ghost use Rattle.hub_class.specs.Worked.{set_reset, clear_first};
+ghost use Rattle.std.specs.Prelude.{Some};
+
+/// Where its hub hasn't heard last to clear a buffer or reset a translator, each event of the controller leaves a control endpoint below it
+/// as it must stand: while its requests are asked, between two of them, and after errors ended one, when its device may still act on that
+/// one.
+pub fn the_controller_keeps_control_endpoints_below()
+    ensures queue { ControllerKeepsQueueBelow }
+    ensures rest { ControllerKeepsRestBelow }
+    ensures left { ControllerKeepsLeftBelow }
+{}
+
+/// What its device acts on in an event is what a run records of its stages before and after it.
+pub fn what_a_device_acts_on_is_recorded()
+    ensures { MovesAreRecorded }
+{}
+
+/// At each moment of each script that a text spells its hub is the one that its queue head names; and where no line of the script asks that
+/// hub to clear a buffer or to reset a translator, it hasn't heard such a request last.
+pub fn its_hub_is_spared()
+    ensures there { TextsKeepHubs }
+    ensures spared { TextsSpareHubs }
+{}
+
+/// So it is of the control endpoint of a scanner behind hub 9, where a port of this hub is reset; not where a buffer of it is cleared, nor
+/// of one behind a hub that the script hasn't. Before the first line the hub has heard nothing.
+pub fn a_scanner_is_behind_its_hub()
+    ensures its { IsBehindHub (asked set_reset) (zero (Some 9) 4) }
+    ensures other { IsBehindHub (asked set_reset) (zero (Some 8) 4) → ⊥ }
+    ensures leaves { LeavesTranslator (asked set_reset) (zero (Some 9) 4) }
+    ensures clears { LeavesTranslator (asked clear_first) (zero (Some 9) 4) → ⊥ }
+    ensures starts { StartsSpared }
+{}
