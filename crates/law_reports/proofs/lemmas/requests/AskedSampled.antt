@@ -133,7 +133,7 @@ no_act is = cc
 pub early : AreTold (data_of asked_once control.name) (18 ∷ 1 ∷ []) (asked_windows 32) asked_lines → ⊥
 early k =
     let one : AreTold (data_of asked_once control.name) (18 ∷ 1 ∷ []) (its_window [] ∷ [])
-        (record { name = control.name; what = Done; from = 0; len = 2 } ∷ []) =
+    (record { name = control.name; what = Done; from = 0; len = 2 } ∷ []) =
     subst (λ (ls : _). AreTold (data_of asked_once control.name) (18 ∷ 1 ∷ []) (its_window [] ∷ []) ls) told.1
     (subst (λ (ws : List Window). AreTold (data_of asked_once control.name) (18 ∷ 1 ∷ []) ws asked_lines) begun k) in
     no_act (sym one.0.0)

@@ -98,7 +98,7 @@ module _ (p : Parts) (name : EpName) where
   given f x bytes true is reports store = record {
     lines = ap (λ (rs : List Report). before_cancel (lines_in name rs)) reports
         ∙ cancel_left name p.driver.reports
-            (record { name = x.desc.name; what = lines.Cancel; from = length p.driver.store; len = length bytes }) refl;
+        (record { name = x.desc.name; what = lines.Cancel; from = length p.driver.store; len = length bytes }) refl;
     bytes = bytes;
     store = store;
   }

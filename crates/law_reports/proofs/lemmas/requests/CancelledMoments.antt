@@ -41,9 +41,9 @@ texts_tell_of_cancelled text s spelled n =
     })
     (record {
       driver = λ w v asks h. record {
-          high = driver_keeps_high_asks g (fixed_of s) (pipes_of s) v asks w h.high;
-          told = driver_keeps_cancelled g (fixed_of s) (pipes_of s) v asks w h.high h.told;
-        };
+        high = driver_keeps_high_asks g (fixed_of s) (pipes_of s) v asks w h.high;
+        told = driver_keeps_cancelled g (fixed_of s) (pipes_of s) v asks w h.high h.told;
+      };
       controller = λ w v asks h.
           let new = controller_keeps_high_asks g (fixed_of s) (pipes_of s) v asks w (λ speed on. on) h.high in
           record { high = new; told = controller_keeps_cancelled g (fixed_of s) (pipes_of s) v asks w h.high new h.told };

@@ -280,6 +280,7 @@ module _ (g : Sides) (fixed : Fixed) (p : Pipes) (v : Windows) (asks : ℕ → R
         (numbers_of w.driver i) (numbers_are w.driver i)))
         (record { lines = refl; bytes = []; store = sym (append-nil w.driver.store) })
         (k.each i z here control on off)
+
     by_walk : (b : Bool) → may_meet (queued w.driver) i (queued_endpoint z) ≡ b
         → IsToldBefore w.driver asks (after_event fixed w v) g.whole i z
     by_walk true near = met_is_told g fixed p (after_event fixed w v) asks (controller_next fixed w) new i z here control on near
