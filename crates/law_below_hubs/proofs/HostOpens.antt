@@ -107,7 +107,7 @@ head_opens_in kind packets w i place timely parts hand n x q head is below own i
 
 -- ---- where none asks it
 
-asked_other : (own : EpKind) (dir : Dir) (near : ℕ → Bool) (x : Endpoint) (parts : StructureSets) (hand : Hand) (wire after : Wired)
+pub asked_other : (own : EpKind) (dir : Dir) (near : ℕ → Bool) (x : Endpoint) (parts : StructureSets) (hand : Hand) (wire after : Wired)
     (later : Hand)
     → AskedAreNear near parts hand → AsksNone dir near parts x → (m : Asks transacts_by parts hand wire after later)
     → IsOfOther (told_key own dir x) (call_in (transaction_of m.kind m.copy.queue) m.out m.last).ask

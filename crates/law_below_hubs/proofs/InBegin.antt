@@ -50,7 +50,7 @@ begun_from : (frindex : ℕ) (o : Option Device) (addr ep : ℕ) (s : Sender) �
 begun_from frindex None addr ep s is = absurd cc
 begun_from frindex (Some d) addr ep s is = begun_by (begins_anew d.speed frindex) d addr ep s (device_found addr ep (Some d) s is)
 
-begun_sender : (fixed : Fixed) (frindex : ℕ) (devices : List Device) (addr ep : ℕ) (s : Sender)
+pub begun_sender : (fixed : Fixed) (frindex : ℕ) (devices : List Device) (addr ep : ℕ) (s : Sender)
     → end_in sender_of_device Tokens.In fixed devices addr ep ≡ Some s
     → end_in sender_of_device Tokens.In fixed (map (begun_at frindex) devices) addr ep ≡ Some s
 begun_sender fixed frindex devices addr ep s is =

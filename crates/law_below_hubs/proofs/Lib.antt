@@ -56,7 +56,12 @@ pub mod FramesSend
 pub mod HostCarries
 pub mod OutEvents
 pub mod InEvents
+pub mod AwaitedEnds
+pub mod AwaitedKeys
+pub mod AwaitedBegins
+pub mod AwaitedEvents
 pub mod WorkedHosts
 pub mod WorkedRequests
 pub mod WorkedWindows
 pub mod WorkedMoves
+pub mod WorkedAwaited

@@ -50,7 +50,7 @@ begun_from : (frindex : ℕ) (o : Option Device) (addr ep : ℕ) (s : Taker) →
 begun_from frindex None addr ep s is = absurd cc
 begun_from frindex (Some d) addr ep s is = begun_by (begins_anew d.speed frindex) d addr ep s (Takers.device_found addr ep (Some d) s is)
 
-begun_taker : (fixed : Fixed) (frindex : ℕ) (devices : List Device) (addr ep : ℕ) (s : Taker)
+pub begun_taker : (fixed : Fixed) (frindex : ℕ) (devices : List Device) (addr ep : ℕ) (s : Taker)
     → end_in taker_of_device Tokens.Out fixed devices addr ep ≡ Some s
     → end_in taker_of_device Tokens.Out fixed (map (begun_at frindex) devices) addr ep ≡ Some s
 begun_taker fixed frindex devices addr ep s is =

@@ -61,7 +61,7 @@ module _ (way : Way) (k : Key) where
       (has.0, own_hub f i place hs h s new has.1 there each)
 
   -- where the key is in it, and the same hub is found
-  own_has : (i place : ℕ) (hubs : List HubContent) (h : HubContent) (s : KeySlot) → HubsHave way k i place hubs s
+  pub own_has : (i place : ℕ) (hubs : List HubContent) (h : HubContent) (s : KeySlot) → HubsHave way k i place hubs s
       → slice_get hubs i ≡ Some h → HasAt way k place h.translators.all s
   own_has i place [] h s has there = absurd has
   own_has zero place (x ∷ hs) h s has there = let same : x ≡ h =
@@ -113,11 +113,11 @@ pub complete_after : (hub port : ℕ) (ask : Ask) (out : List ℕ) (stuff : ℕ)
     → transacted ask out stuff h ≡ record h { translators = hub_after (Completes ask) h.translators }
 complete_after hub port ask out stuff h is = ap (λ (split : Split). after_split split ask out stuff h) is
 
-start_says : (hub port : ℕ) (part : DataPart) (ask : Ask) (h : HubContent) → ask.split ≡ Start hub port part
+pub start_says : (hub port : ℕ) (part : DataPart) (ask : Ask) (h : HubContent) → ask.split ≡ Start hub port part
     → transact_reply ask h ≡ option_map_or (start_answer ask) (translator_at (port_of ask.split) h.translators) Silent
 start_says hub port part ask h is = ap (λ (split : Split). split_reply split ask h) is
 
-complete_says : (hub port : ℕ) (ask : Ask) (h : HubContent) → ask.split ≡ Complete hub port
+pub complete_says : (hub port : ℕ) (ask : Ask) (h : HubContent) → ask.split ≡ Complete hub port
     → transact_reply ask h ≡ option_map_or (complete_answer ask) (translator_at (port_of ask.split) h.translators) Silent
 complete_says hub port ask h is = ap (λ (split : Split). split_reply split ask h) is
 

@@ -29,7 +29,9 @@ pub mod RequestViews
 pub mod RequestTurns
 pub mod HostEvents
 pub mod HostOpens
+pub mod Awaited
 pub mod WorkedHosts
 pub mod WorkedRequests
 pub mod WorkedWindows
 pub mod WorkedMoves
+pub mod WorkedAwaited

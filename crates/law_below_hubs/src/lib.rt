@@ -1,5 +1,6 @@
 //! Pipes below hubs, on the bus of a script (USB 2.0, 8.6, 11.14 and 11.18).
 //!
+//! - `awaited`: what the host of a bulk endpoint waits for, where it hears each answer of its hub.
 //! - `buses`: the bus below a hub is one of the same laws as the high-speed bus (`law_ring`, `law_devices`); an endpoint keeps to them on
 //!   both, wherever its device is.
 //! - `events`: such a pipe at the events of the controller.
@@ -14,6 +15,7 @@
 //! The crate has no code of its own: each function is a law, and its body is empty.
 #![tactic(auto)]
 
+pub mod awaited;
 pub mod buses;
 pub mod events;
 pub mod hosts;

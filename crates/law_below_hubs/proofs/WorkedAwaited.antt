@@ -1,0 +1,39 @@
+-- What a worked host below a hub waits for.
+use Rattle.std.proofs.Common.{◌≡◌, inl, false, [], refl, sym, subst, Some}
+use Rattle.usb_base.specs.declared.packets.Pid.TheVariants as Pids
+use Rattle.usb_base.specs.declared.packets.Reply.TheVariants.{Hand}
+use Rattle.law_translated.specs.Lift.{Empty, Asked, There}
+use Rattle.law_translated.specs.KeySlots.{KeySlot}
+use Rattle.law_below_hubs.specs.Awaited.{StandsAs}
+use Rattle.law_below_hubs.specs.WorkedAwaited.{NoneAwaited, StartAwaited, ResultAwaited, UnstartedBreaks}
+use Rattle.law_below_hubs.specs.WorkedPut.{taken}
+use Rattle.law_below_hubs.proofs.WorkedPut.{start_is_taken, result_is_there}
+
+pub none_awaited : NoneAwaited
+none_awaited = record {
+  slot = Empty;
+  has = (
+    (
+      record {
+        slot = record { is_told = false; packet = []; is = refl };
+        keyed = record { once = inl refl; entries = tt; none = refl };
+      },
+      tt,
+    ),
+    tt,
+  );
+  stands = tt;
+  ends = refl;
+}
+
+pub start_awaited : StartAwaited
+start_awaited = record { slot = Asked taken; has = start_is_taken.has; stands = refl; ends = refl }
+
+pub result_awaited : ResultAwaited
+result_awaited = record { slot = There taken (Hand Pids.Ack); has = result_is_there.has; stands = refl; ends = refl }
+
+pub unstarted_breaks : UnstartedBreaks
+unstarted_breaks k = by k.slot (sym k.has.0.0.slot.is) k.stands
+  where
+    by : (s : KeySlot) → s ≡ Empty → StandsAs (Some Pids.Out) s → ⊥
+    by s is stands = subst (StandsAs (Some Pids.Out)) is stands
