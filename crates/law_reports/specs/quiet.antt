@@ -1,7 +1,10 @@
 pub mod Errors
 pub mod Heard
+pub mod Awaiting
+pub mod AwaitingLaws
 pub mod HeardLaws
 pub mod HeardSamples
 pub mod Replies
 pub mod Laws
 pub mod Samples
+pub mod SparedSamples

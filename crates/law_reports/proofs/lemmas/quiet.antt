@@ -18,3 +18,13 @@ pub mod Heards
 pub mod Lines
 pub mod Sampled
 pub mod HeardSampled
+pub mod AwaitedHearing
+pub mod AwaitedControlled
+pub mod AwaitedDriven
+pub mod AwaitedCommanded
+pub mod AwaitedErrors
+pub mod AwaitedWorlds
+pub mod HubsDeclared
+pub mod AwaitedOpens
+pub mod AwaitedLines
+pub mod SparedSampled

@@ -152,7 +152,7 @@ module _ (s : Script) (b : Bus) (k : IsHeardBus s b) where
 
 -- ---- before the first line
 
-zeros : {A : Type 0} (xs : List A) (i : ℕ) (x : A) → slice_get xs i ≡ Some x → slice_get {X = ℕ} (replicate (length xs) 0) i ≡ Some 0
+pub zeros : {A : Type 0} (xs : List A) (i : ℕ) (x : A) → slice_get xs i ≡ Some x → slice_get {X = ℕ} (replicate (length xs) 0) i ≡ Some 0
 zeros [] i x here = absurd (cc)
 zeros (y ∷ ys) zero x here = refl
 zeros (y ∷ ys) (suc i) x here = zeros ys i x here

@@ -1,7 +1,7 @@
 -- Each event of the controller, of either walk, leaves errors where its transaction counts none.
-use Rattle.std.proofs.Common.{◌≡◌, ℕ, cond, Bool, true, false, not, ◌&&◌, if◌then◌else◌, List, Option, Some, ap, refl, sym}
+use Rattle.std.proofs.Common.{◌≡◌, ℕ, ◌==◌, cond, Bool, true, false, not, ◌&&◌, if◌then◌else◌, List, Option, Some, ap, refl, sym}
 use Rattle.std.proofs.Common.{subst, ◌∙◌, ⊎_elim}
-use Rattle.std.proofs.lemmas.Bool.{eq-eqb}
+use Rattle.std.proofs.lemmas.Bool.{eq-eqb, false≢true}
 use Rattle.std.proofs.lemmas.Option.{same_Some}
 use Rattle.usb_base.specs.declared.packets.Ask.{Ask}
 use Rattle.usb_base.specs.declared.packets.Reply.{Reply}
@@ -90,6 +90,24 @@ misses_below f q is high =
     (sym (ap (λ (b : Bool). if not b && (q.token.split_state && (q.token.active && not q.token.halted))
     then complete_turn (is_missed f q) (has q.cmask (microframe_of f)) else start_turn (visit_of (has q.smask (microframe_of f)) q))
     (eq-eqb q.eps 2 high)) ∙ is)
+
+-- .. and of a split transaction that goes on
+misses_active : (f : ℕ) (q : Qh) → turn_of f q ≡ queue_turns.Miss → q.token.active ≡ true
+misses_active f q is = by q.token.active refl
+  where
+    not_waiting : (slow wait : Bool) → (slow && (wait && false)) ≡ false
+    not_waiting true true = refl
+    not_waiting true false = refl
+    not_waiting false wait = refl
+
+    by : (b : Bool) → q.token.active ≡ b → b ≡ true
+    by true on = refl
+    by false off =
+        absurd (rests q (microframe_of f)
+        (sym (ap (λ (b : Bool). if not (q.eps == 2) && (q.token.split_state && (b && not q.token.halted))
+        then complete_turn (is_missed f q) (has q.cmask (microframe_of f)) else start_turn (visit_of (has q.smask (microframe_of f)) q)) off
+        ∙ ap (λ (b : Bool). if b then complete_turn (is_missed f q) (has q.cmask (microframe_of f))
+        else start_turn (visit_of (has q.smask (microframe_of f)) q)) (not_waiting (not (q.eps == 2)) q.token.split_state)) ∙ is))
 
 module _ (Q : Key → Bool) where
   after_left : (x : Key) (c : Qh) (t : Qtd) (b : Bool) → TokenHasLeft Q x c.token → TokenHasLeft Q x t.token
@@ -221,15 +239,14 @@ module _ (Q : Key → Bool) where
   same_copy : (c e : Copy) → Copied c ≡ Copied e → c ≡ e
   same_copy c e is = cc
 
-  module _ {W : Type 0} (transacts : W → Ask → List ℕ → Reply → W → Type 0) (high : (x : Key) → Q x ≡ true → x.eps ≡ 2)
-      (met : ℕ → Option Kind) (parts : StructureSets) (w : Walk) (frame : FrameHand)
+  module _ {W : Type 0} (transacts : W → Ask → List ℕ → Reply → W → Type 0) (met : ℕ → Option Kind) (parts : StructureSets) (w : Walk) (frame : FrameHand)
       (wire after : W) (now : StructureSets) (later : FrameHand) (in_hand : IsInFrame met parts w.got w.reply frame)
       (answers : (m : MakesOfQueue transacts parts w frame wire after later) → IsCopiedQueue met parts m.copy
       → HostHasLeft Q (key_of m.copy.queue) m.copy.queue.token.pid (frame_settlement w.index m.copy.queue m.out m.reply).host) where
     abbrev FrameHas : FrameHand → Type 0
     FrameHas h = HandHasLeft Q (joined Empty h)
 
-    module _ (v : WritesQueue parts w frame now later) (had : FrameHas frame) where
+    module _ (v : WritesQueue parts w frame now later) (had : FrameHas frame) (k : (n : ℕ) → PartHasLeft Q n (parts n)) where
       from_here : IsSettledFrom w frame v.copy v.settled v.made → parts v.copy.at v.copy.at ≡ Some (QueueHead v.copy.queue)
       from_here (was_worked is) =
           let both : IsCopiedQueue met parts v.copy × IsQueueSettled v.copy.queue w.reply v.settled = subst
@@ -240,15 +257,19 @@ module _ (Q : Key → Bool) where
 
       from_host : IsSettledFrom w frame v.copy v.settled v.made → HostHasLeft Q (key_of v.copy.queue) v.copy.queue.token.pid v.settled.host
       from_host (was_worked is) = subst FrameHas is had
-      from_host (was_missed is turn settled) = record {
-        met = λ fast. absurd (misses_below w.index v.copy.queue turn fast);
-        going = λ on act. absurd (misses_below w.index v.copy.queue turn (high (key_of v.copy.queue) on));
-        stopped = λ on act. absurd (misses_below w.index v.copy.queue turn (high (key_of v.copy.queue) on));
-        setup = λ on pid act. absurd (misses_below w.index v.copy.queue turn (high (key_of v.copy.queue) on));
-      }
+      from_host (was_missed is turn settled) =
+          let old : TokenHasLeft Q (key_of v.copy.queue) v.copy.queue.token =
+          (k v.copy.at).head v.copy.queue (from_here (was_missed is turn settled)) in
+          subst (λ (z : QueueSettlement). HostHasLeft Q (key_of v.copy.queue) v.copy.queue.token.pid z.host) (sym settled)
+          (record {
+            met = λ fast. absurd (misses_below w.index v.copy.queue turn fast);
+            going = λ on act. absurd (false≢true act);
+            stopped = λ on act. old.going on (misses_active w.index v.copy.queue turn);
+            setup = λ on pid act. absurd (false≢true act);
+          })
 
-      queue_parts : ((n : ℕ) → PartHasLeft Q n (parts n)) → (n : ℕ) → PartHasLeft Q n (now n)
-      queue_parts k n =
+      queue_parts : (n : ℕ) → PartHasLeft Q n (now n)
+      queue_parts n =
           let c = v.copy in
           subst (λ (ps : StructureSets). PartHasLeft Q n (ps n)) (sym v.now_is)
           (back_parts parts c (settled_in c v.settled) (moved_by v.settled.outcome) v.settled.got

@@ -1,8 +1,7 @@
 -- At each moment of each script whose packets on the high-speed bus all get through, no queue of an endpoint there has used up its errors.
-use Rattle.std.proofs.Common.{◌≡◌, ◌≢◌, ℕ, ◌==◌, Bool, true, false, not, ◌||◌, List, [], ◌∷◌, length, slice_get, Some, Result}
+use Rattle.std.proofs.Common.{◌≡◌, ◌≢◌, ℕ, Bool, true, false, List, [], ◌∷◌, length, slice_get, Some, Result}
 use Rattle.std.proofs.Common.{Ok, Err, ap, refl, sym, subst, ◌∙◌, ⊎_elim, inl, inr}
 use Rattle.std.specs.List.{AllByRecursion}
-use Rattle.std.proofs.lemmas.Bool.{and_parts, eqb-true}
 use Rattle.std.proofs.lemmas.Option.{same_Some}
 use Rattle.usb_base.specs.declared.commands.Cmd.{Cmd}
 use Rattle.usb_base.specs.declared.endpoints.EpDesc.{EpDesc}
@@ -79,7 +78,7 @@ use Rattle.law_reports.proofs.lemmas.pipes.Driven.{heads_left, driven}
 use Rattle.law_reports.proofs.lemmas.pipes.Names.{IsMetHead, same_number, kept_as}
 use Rattle.law_reports.proofs.lemmas.pipes.Opened.{opened_piped}
 use Rattle.law_reports.proofs.lemmas.pipes.Opening.{new_standing, no_lines, no_heads, new_piped}
-use Rattle.law_reports.specs.quiet.Errors.{Key, key_of, TokenHasLeft, HostHasLeft}
+use Rattle.law_reports.specs.quiet.Errors.{key_of, TokenHasLeft, HostHasLeft}
 use Rattle.law_reports.specs.quiet.Heard.{is_high_asked, IsServed, AreServed, IsHeardBus, IsHeardWorld}
 use Rattle.law_reports.specs.quiet.Laws.{HasErrorsLeft}
 use Rattle.law_reports.proofs.lemmas.quiet.Answers.{MayWait}
@@ -94,9 +93,6 @@ use Rattle.law_reports.proofs.lemmas.quiet.Worlds.{driver_leaves_errors, off, ev
 use Rattle.bus_world.specs.Budgets.{moment}
 use Rattle.bus_world.specs.Opening.{opening_world}
 use Rattle.bus_world.specs.World.{World, driver_parts, driver_next, controller_next, name_in, commanded_by, commanded}
-
-high_only : (x : Key) → is_high_asked x ≡ true → x.eps ≡ 2
-high_only x on = eqb-true x.eps 2 (and_parts (x.eps == 2) (x.dtc || not (x.ep == 0)) on).0
 
 -- ---- a transaction
 
@@ -114,7 +110,7 @@ module _ (text : List ℕ) (s : Script) (spelled : Spells text s) (above : IsHea
   event = (controlled_event (fixed_of s) (sides_of s) k.standing k.lines k.heads w k.piped).event
 
   pub own_here : (n : ℕ) (q : Qh) → both st.descs st.parts n n ≡ Some (QueueHead q) → st.parts n n ≡ Some (QueueHead q)
-  own_here n q here = ap (λ (part : Structures). part n) (sym (off is_high_asked high_only (fixed_of s) st w mixed event k.left n q here))
+  own_here n q here = ap (λ (part : Structures). part n) (sym (off is_high_asked (fixed_of s) st w mixed event k.left n q here))
       ∙ here
 
   token_at : (n : ℕ) (q : Qh) → both st.descs st.parts n n ≡ Some (QueueHead q) → TokenHasLeft is_high_asked (key_of q) q.token
@@ -215,14 +211,14 @@ module _ (text : List ℕ) (s : Script) (spelled : Spells text s) (above : IsHea
     lines = _;
     heads = k.heads;
     piped = controlled (fixed_of s) (sides_of s) k.standing k.lines k.heads w k.piped;
-    left = event_leaves_errors is_high_asked high_only (fixed_of s) st w mixed event k.left rings frames;
+    left = event_leaves_errors is_high_asked (fixed_of s) st w mixed event k.left rings frames;
     served = k.served;
     bus = controller_keeps_bus s w k.bus;
   }
 
 -- ---- an event of the driver
 
-driver_served : (s : Script) (w : World) → AreServed s w.driver → AreServed s (driver_next w).driver
+pub driver_served : (s : Script) (w : World) → AreServed s w.driver → AreServed s (driver_next w).driver
 driver_served s w k e z here =
     let v : WasIn w.driver.endpoints e z = was_in w.driver.endpoints (driver_next w).driver.endpoints
     (row_ends (driver_row (driver_parts w)) (driver_parts w)) e z here in
@@ -288,7 +284,7 @@ accepted_served s d f cmd can (one_anew i y v at ends comes gone never tells) ol
     (ap (λ (xs : List Endpoint). slice_get xs e) (sym ends) ∙ here) in
     subst (IsServed s) (sym w.comes.desc) (old e w.endpoint w.here)
 
-command_by : (s : Script) (w : World) (n : ℕ) (cmd : Cmd) (name : EpName) (r : Result Offered OfferError)
+pub command_by : (s : Script) (w : World) (n : ℕ) (cmd : Cmd) (name : EpName) (r : Result Offered OfferError)
     → offered w.driver w.memory cmd ≡ r
     → OpensServed s cmd → AreServed s w.driver → AreServed s (commanded_by w n name r).driver
 command_by s w n cmd name (Ok o) is can old =

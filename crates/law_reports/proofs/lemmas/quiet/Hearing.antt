@@ -77,7 +77,7 @@ not_against name f through = by f.down refl
         ap (λ (b : Bool). not b && (is_bad f.fate && is_same_name f.name name)) is
         ∙ ap (λ (b : Bool). b && is_same_name f.name name) (good_passes f.fate (through is))
 
-none_against : (name : EpName) (k : ℕ) (fs : List FateText) → AllByRecursion GetsThroughAbove fs
+pub none_against : (name : EpName) (k : ℕ) (fs : List FateText) → AllByRecursion GetsThroughAbove fs
     → list_any (λ n. n == k) (map (λ (f : FateText). f.k) (filter (is_against name false) fs)) ≡ false
 none_against name k [] all = refl
 none_against name k (f ∷ fs) all =
@@ -86,7 +86,7 @@ none_against name k (f ∷ fs) all =
     ∙ none_against name k fs all.1
 
 -- where nothing is lost the answer is heard, or there is none
-heard_whole : (answer : Reply) (acked lost : Bool) → asker_hears (who_heard false (is_answer answer) false acked lost) answer ≡ answer
+pub heard_whole : (answer : Reply) (acked lost : Bool) → asker_hears (who_heard false (is_answer answer) false acked lost) answer ≡ answer
 heard_whole replies.Silent acked lost = refl
 heard_whole (replies.Bytes pid bytes) false lost = refl
 heard_whole (replies.Bytes pid bytes) true true = refl

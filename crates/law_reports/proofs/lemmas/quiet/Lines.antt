@@ -57,11 +57,11 @@ use Rattle.law_reports.proofs.lemmas.quiet.Worlds.{texts_miss_none}
 
 -- ---- the tokens that are read
 
--- no token of a high-speed endpoint that is read is a reason for such a line
-abbrev pub ReadsNone : What → World → Type 0
-ReadsNone it w = (t : ℕ) (y : Transfer) (x : Endpoint) → slice_get w.driver.transfers t ≡ Some y
+-- no token that is read of such an endpoint is a reason for such a line
+abbrev pub ReadsNone : (EpDesc → Bool) → What → World → Type 0
+ReadsNone of it w = (t : ℕ) (y : Transfer) (x : Endpoint) → slice_get w.driver.transfers t ≡ Some y
     → slice_get w.driver.endpoints y.endpoint ≡ Some x
-    → is_descriptor y.sort ≡ false → y.reported ≡ false → x.ended ≡ None → is_high x.desc.speed ≡ true
+    → is_descriptor y.sort ≡ false → y.reported ≡ false → x.ended ≡ None → of x.desc ≡ true
     → (get last : Bool) (what : What) → HasReason get last (token_of w.memory y.place) what → what ≡ it → ⊥
 
 -- a queue head that is met is asked by its endpoint's own speed
@@ -73,12 +73,15 @@ module _ (s : Script) (w : World) (k : HasPiped (fixed_of s) (sides_of s) w) (e 
   named true on = (k.piped.pipes.in_pipes.pipes n on).named
   named false off = (k.piped.pipes.in_pipes.others n near off).0
 
-  asked : endpoint_of q ≡ asked_as z.desc
+  pub asked : endpoint_of q ≡ asked_as z.desc
   asked =
       let h = named (k.heads.ins n) refl in
       let same : h.queue ≡ q = same_Some h.queue q
       (sym (head_read w.memory k.standing.parts n n h.queue (tells_of k.standing w k.piped.mixed) h.head) ∙ read) in
       ap endpoint_of (sym same) ∙ sym h.is ∙ ends
+
+abbrev pub at_high : EpDesc → Bool
+at_high x = is_high x.speed
 
 high_eps : (x : EpDesc) → is_high x.speed ≡ true → (asked_as x).speed ≡ 2
 high_eps x high = by x.speed high
@@ -95,7 +98,7 @@ missed_told get last t _ (babbled idle on bit long) is = absurd (cc)
 missed_told get last t _ (failed idle on bit long out) is = absurd (cc)
 missed_told get last t _ (stalled idle on bit long some) is = absurd (cc)
 
-reads_unmissed : (s : Script) (w : World) → IsUnmissedWorld w → HasPiped (fixed_of s) (sides_of s) w → ReadsNone lines.Miss w
+reads_unmissed : (s : Script) (w : World) → IsUnmissedWorld w → HasPiped (fixed_of s) (sides_of s) w → ReadsNone at_high lines.Miss w
 reads_unmissed s w u k t y x there here sort untold going high get last what reason is =
     let v = u.standing in
     let q = (part_there v w u.mixed t y x there here sort untold going).queue in
@@ -117,7 +120,7 @@ reads_unmissed s w u k t y x there here sort untold going high get last what rea
 
 -- ---- .. where all packets above get through
 
-error_told : (get last : Bool) (t : Token) (what : What) → HasReason get last t what → what ≡ lines.Halt causes.Error
+pub error_told : (get last : Bool) (t : Token) (what : What) → HasReason get last t what → what ≡ lines.Halt causes.Error
     → (t.halted ≡ true) × (t.cerr ≡ 0)
 error_told get last t _ (done idle on whole) is = absurd (cc)
 error_told get last t _ (missed idle on bit) is = absurd (cc)
@@ -125,7 +128,7 @@ error_told get last t _ (babbled idle on bit long) is = absurd (cc)
 error_told get last t _ (failed idle on bit long out) is = (on, out)
 error_told get last t _ (stalled idle on bit long some) is = absurd (cc)
 
-reads_unfailed : (s : Script) (w : World) → IsHeardWorld s w → ReadsNone (lines.Halt causes.Error) w
+pub reads_unfailed : (s : Script) (w : World) → IsHeardWorld s w → ReadsNone at_high (lines.Halt causes.Error) w
 reads_unfailed s w k t y x there here sort untold going high get last what reason is =
     let v = k.standing in
     let mixed = k.piped.mixed in
@@ -171,8 +174,8 @@ is_of d f now line P k =
       so = subst P (sym z.comes.desc) k.so;
     }
 
-abbrev IsBelow : EpDesc → Type 0
-IsBelow x = is_high x.speed ≡ false
+abbrev IsOther : (EpDesc → Bool) → EpDesc → Type 0
+IsOther of x = of x ≡ false
 
 -- of what no other reason tells
 pub record IsOfTokens (it : What) : Type 0 where
@@ -181,22 +184,22 @@ pub record IsOfTokens (it : What) : Type 0 where
   pub cancel : ◌≡◌ {A = What} lines.Cancel it → ⊥
   pub refusal : (n : ℕ) (why : OfferError) → ◌≡◌ {A = What} (lines.Refused n why) it → ⊥
 
-abbrev pub LinesAreBelow : What → DriverContent → Type 0
-LinesAreBelow it d = (i : ℕ) (line : Report) → slice_get d.reports i ≡ Some line → line.what ≡ it → IsLineOf d line IsBelow
+abbrev pub LinesAreBelow : (EpDesc → Bool) → What → DriverContent → Type 0
+LinesAreBelow of it d = (i : ℕ) (line : Report) → slice_get d.reports i ≡ Some line → line.what ≡ it → IsLineOf d line (IsOther of)
 
-module _ (it : What) (of : IsOfTokens it) where
-  module _ (w : World) (reads : ReadsNone it w) where
+module _ (bad : EpDesc → Bool) (it : What) (of : IsOfTokens it) where
+  module _ (w : World) (reads : ReadsNone bad it w) where
     token_below : (notes : List QtdNote) (line : Report) (bytes : List ℕ) → IsToldByToken (driver_parts w) notes line bytes
-        → line.what ≡ it → IsLineOf w.driver line IsBelow
+        → line.what ≡ it → IsLineOf w.driver line (IsOther bad)
     token_below notes line bytes k is = record {
       number = k.of.transfer.endpoint;
       endpoint = k.of.endpoint;
       here = k.of.here;
       name = k.of.name;
-      so = by (is_high k.of.endpoint.desc.speed) refl;
+      so = by (bad k.of.endpoint.desc) refl;
     }
       where
-        by : (b : Bool) → is_high k.of.endpoint.desc.speed ≡ b → is_high k.of.endpoint.desc.speed ≡ false
+        by : (b : Bool) → bad k.of.endpoint.desc ≡ b → bad k.of.endpoint.desc ≡ false
         by false slow = slow
         by true high =
             absurd (reads k.of.number k.of.transfer k.of.endpoint k.of.there k.of.here k.qtds k.of.untold k.of.going high _ _ line.what
@@ -204,55 +207,55 @@ module _ (it : What) (of : IsOfTokens it) where
             is)
 
     reason_below : (notes : List QtdNote) (line : Report) (bytes : List ℕ) → Reason (driver_parts w) notes line bytes → line.what ≡ it
-        → IsLineOf w.driver line IsBelow
+        → IsLineOf w.driver line (IsOther bad)
     reason_below notes line bytes (by_token k) is = token_below notes line bytes k is
     reason_below notes line bytes (behind k) is = absurd (of.stall (sym k.what ∙ is))
     reason_below notes line bytes (by_slots k) is = absurd (of.slots _ (sym k.what ∙ is))
     reason_below notes line bytes (by_cancel k) is = absurd (of.cancel (sym k.what ∙ is))
 
     told_below : (notes : List QtdNote) (reports : List Report) (store : List ℕ) → AreTold (driver_parts w) notes reports store
-        → LinesAreBelow it w.driver
-        → (i : ℕ) (line : Report) → slice_get reports i ≡ Some line → line.what ≡ it → IsLineOf w.driver line IsBelow
+        → LinesAreBelow bad it w.driver
+        → (i : ℕ) (line : Report) → slice_get reports i ≡ Some line → line.what ≡ it → IsLineOf w.driver line (IsOther bad)
     told_below notes _ _ nothing old i line here is = old i line here is
     told_below notes _ _ (one_more reports store bytes z told reason from long) old i line here is =
         ⊎_elim (λ (was : slice_get reports i ≡ Some line). told_below notes reports store told old i line was is)
-        (λ (new : line ≡ z). subst (λ (v : Report). IsLineOf w.driver v IsBelow) (sym new)
+        (λ (new : line ≡ z). subst (λ (v : Report). IsLineOf w.driver v (IsOther bad)) (sym new)
         (reason_below notes z bytes reason (ap (λ (v : Report). v.what) (sym new) ∙ is))) (last_or reports z i line here)
 
-    driver_below : LinesAreBelow it w.driver → LinesAreBelow it (driver_next w).driver
+    driver_below : LinesAreBelow bad it w.driver → LinesAreBelow bad it (driver_next w).driver
     driver_below old i line here is =
         is_of w.driver (driver_next w).driver
         (is_now_in w.driver.endpoints (driver_next w).driver.endpoints (row_ends (driver_row (driver_parts w)) (driver_parts w))) line
-        IsBelow
+        (IsOther bad)
         (told_below (driver_next w).driver.notes (driver_next w).driver.reports (driver_next w).driver.store (drivers_tell_for_reasons
         (driver_parts w)) old i line here is)
 
   -- ---- a command
 
-  accepted_below : (d f : DriverContent) (cmd : Cmd) → EndsThen d f cmd → LinesAreBelow it d → LinesAreBelow it f
+  accepted_below : (d f : DriverContent) (cmd : Cmd) → EndsThen d f cmd → LinesAreBelow bad it d → LinesAreBelow bad it f
   accepted_below d f cmd (one_endpoint_more x is_open ends kept newest tells) old i line here is =
       is_of d f (λ e y at. record {
         endpoint = y;
         here = ap (λ (xs : List Endpoint). slice_get xs e) ends ∙ pushed d.endpoints x e y at;
         comes = record { desc = refl; queue = refl; alive = λ some. some };
-      }) line IsBelow (old i line (ap (λ (rs : List Report). slice_get rs i) (sym tells.reports) ∙ here) is)
+      }) line (IsOther bad) (old i line (ap (λ (rs : List Report). slice_get rs i) (sym tells.reports) ∙ here) is)
   accepted_below d f cmd (one_anew e y z at ends comes gone never tells) old i line here is =
       is_of d f (λ j v there. subst (λ (xs : List Endpoint). IsNowIn xs j v) (sym ends) (now_anew d.endpoints e y z at comes j v there))
-      line IsBelow (old i line (ap (λ (rs : List Report). slice_get rs i) (sym tells.reports) ∙ here) is)
+      line (IsOther bad) (old i line (ap (λ (rs : List Report). slice_get rs i) (sym tells.reports) ∙ here) is)
 
-  refused_below : (w : World) (n : ℕ) (name : EpName) (why : OfferError) → LinesAreBelow it w.driver
-      → LinesAreBelow it (commanded_by w n name (Err why)).driver
+  refused_below : (w : World) (n : ℕ) (name : EpName) (why : OfferError) → LinesAreBelow bad it w.driver
+      → LinesAreBelow bad it (commanded_by w n name (Err why)).driver
   refused_below w n name why old i line here told =
       let told_so : Report = record { name = name; what = lines.Refused n why; from = length w.driver.store; len = 0 } in
       ⊎_elim (λ (was : slice_get w.driver.reports i ≡ Some line). again (old i line was told))
       (λ (new : line ≡ told_so). absurd (of.refusal n why (sym (ap (λ (v : Report). v.what) new) ∙ told)))
       (last_or w.driver.reports told_so i line here)
     where
-      again : IsLineOf w.driver line IsBelow → IsLineOf (commanded_by w n name (Err why)).driver line IsBelow
+      again : IsLineOf w.driver line (IsOther bad) → IsLineOf (commanded_by w n name (Err why)).driver line (IsOther bad)
       again k = record { number = k.number; endpoint = k.endpoint; here = k.here; name = k.name; so = k.so }
 
   command_by : (w : World) (n : ℕ) (cmd : Cmd) (name : EpName) (r : Result Offered OfferError) → offered w.driver w.memory cmd ≡ r
-      → LinesAreBelow it w.driver → LinesAreBelow it (commanded_by w n name r).driver
+      → LinesAreBelow bad it w.driver → LinesAreBelow bad it (commanded_by w n name r).driver
   command_by w n cmd name (Ok o) is old = accepted_below w.driver o.driver cmd (ends_then w.driver w.memory o cmd
       (reason_of w.driver w.memory cmd o is)) old
   command_by w n cmd name (Err why) is old = refused_below w n name why old
@@ -263,9 +266,9 @@ module _ (it : What) (of : IsOfTokens it) where
   none_yet line zero e = cc
   none_yet line (suc i) e = cc
 
-  lines_below : (s : Script) → ((j : ℕ) → ReadsNone it (moment s j).world) → (k : ℕ) → LinesAreBelow it (moment s k).world.driver
+  pub lines_below : (s : Script) → ((j : ℕ) → ReadsNone bad it (moment s j).world) → (k : ℕ) → LinesAreBelow bad it (moment s k).world.driver
   lines_below s reads k =
-      carrying {X = ℕ} (λ fixed w n. n) (λ w orders n. ReadsNone it w) (λ w n. LinesAreBelow it w.driver) s 0
+      carrying {X = ℕ} (λ fixed w n. n) (λ w orders n. ReadsNone bad it w) (λ w n. LinesAreBelow bad it w.driver) s 0
       (record {
         controller = λ w orders n reads old. old;
         driver = λ w orders n reads old. driver_below w reads old;
@@ -278,15 +281,15 @@ module _ (it : What) (of : IsOfTokens it) where
 of_misses : IsOfTokens lines.Miss
 of_misses = record { stall = λ e. cc; slots = λ n e. cc; cancel = λ e. cc; refusal = λ n why e. cc }
 
-of_errors : IsOfTokens (lines.Halt causes.Error)
+pub of_errors : IsOfTokens (lines.Halt causes.Error)
 of_errors = record { stall = λ e. cc; slots = λ n e. cc; cancel = λ e. cc; refusal = λ n why e. cc }
 
 pub texts_miss_below : TextsMissBelow
 texts_miss_below text s spelled k =
-    lines_below lines.Miss of_misses s
+    lines_below at_high lines.Miss of_misses s
     (λ j. reads_unmissed s (moment s j).world (texts_miss_none text s spelled j) (texts_are_piped text s spelled j)) k
 
 pub texts_fail_below : TextsFailBelow
 texts_fail_below text s spelled above k =
-    lines_below (lines.Halt causes.Error) of_errors s
+    lines_below at_high (lines.Halt causes.Error) of_errors s
     (λ j. reads_unfailed s (moment s j).world (texts_are_heard text s spelled above j)) k

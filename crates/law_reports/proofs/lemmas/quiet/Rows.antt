@@ -51,6 +51,10 @@ row_missed (Plain row) host = plain_missed row host
 row_missed (Start row) host = start_missed row host
 row_missed (Complete row) host = complete_missed row host
 
+pub missed_stays : (ask : Ask) (sent : ℕ) (last : Bool) (reply : Reply) (host : HostSide)
+    → (settled ask sent last reply host).missed ≡ host.missed
+missed_stays ask sent last reply host = row_missed (settle_row ask sent last reply host) host
+
 -- ---- errors
 
 abbrev counts : PlainRow → Bool

@@ -68,7 +68,7 @@ driver_leaves_errors Q s w t mixed step k = record {
 -- ---- the controller
 
 -- where each transaction that it makes leaves errors
-module _ (Q : Key → Bool) (high : (x : Key) → Q x ≡ true → x.eps ≡ 2) (fixed : Fixed) (s : Standing) (w : World) (mixed : IsMixedAt s w)
+module _ (Q : Key → Bool) (fixed : Fixed) (s : Standing) (w : World) (mixed : IsMixedAt s w)
     (a : IsEventOf fixed s w) (k : HasErrorsLeft Q s w) where
   abbrev parts : StructureSets
   parts = both s.descs s.parts
@@ -118,7 +118,7 @@ module _ (Q : Key → Bool) (high : (x : Key) → Q x ≡ true → x.eps ≡ 2) 
         (controller_next fixed w)) a.now a.later
         (walk_place (controller_parts w)).walk.reply runs.ring.in_hand (rings nothing.0) v.kind v.effect (had_ring nothing.0) both_left n
     then_parts (of_frame v) n =
-        frame_parts Q transacts_by high (met w.driver s.recent) (both s.descs s.parts) w.control.frame s.frame (wired fixed w)
+        frame_parts Q transacts_by (met w.driver s.recent) (both s.descs s.parts) w.control.frame s.frame (wired fixed w)
         (wired fixed (controller_next fixed w)) a.now a.frame_later (runs.walk v.part).in_hand (frames v.nothing) v.kind v.effect
         (had_frame v.nothing) both_left n
 
@@ -134,7 +134,7 @@ module _ (Q : Key → Bool) (high : (x : Key) → Q x ≡ true → x.eps ≡ 2) 
         (walk_place (controller_parts w)).walk.reply runs.ring.in_hand (rings nothing.0) v.kind v.effect)
     then_hand (of_frame v) =
         subst (λ (h : Hand). HandHasLeft Q (joined h a.frame_later)) (sym (v.hand_stays ∙ v.nothing))
-        (frame_hand Q transacts_by high (met w.driver s.recent) (both s.descs s.parts) w.control.frame s.frame (wired fixed w)
+        (frame_hand Q transacts_by (met w.driver s.recent) (both s.descs s.parts) w.control.frame s.frame (wired fixed w)
         (wired fixed (controller_next fixed w)) a.now a.frame_later (runs.walk v.part).in_hand (frames v.nothing) v.kind v.effect)
 
     pub event_leaves_errors : HasErrorsLeft Q (standing_then s w a) (controller_next fixed w)
@@ -153,8 +153,7 @@ module _ (fixed : Fixed) (s : Standing) (w : World) (mixed : IsMixedAt s w) (a :
       → HostHasLeft none (key_of m.copy.queue) m.copy.queue.token.pid (settlement m.copy.queue m.out m.reply).host
   rings_none m here =
       let q = m.copy.queue in
-      let token : TokenHasLeft none (key_of q) q.token = (both_left none (λ x on. absurd
-      (false≢true on)) fixed s w mixed a k m.copy.at).head q here in
+      let token : TokenHasLeft none (key_of q) q.token = (both_left none fixed s w mixed a k m.copy.at).head q here in
       answers_count_none none (key_of q) q.token.pid (call_in (ring_planned q) m.out false).ask
       (call_in (ring_planned q) m.out false).sent false m.reply
       (host_in q) token.met (λ on. absurd (false≢true on)) (λ on. absurd (false≢true on)) (λ on. absurd (false≢true on))
@@ -166,14 +165,13 @@ module _ (fixed : Fixed) (s : Standing) (w : World) (mixed : IsMixedAt s w) (a :
       (frame_settlement w.control.frame.index m.copy.queue m.out m.reply).host
   frames_none m copied =
       let q = m.copy.queue in
-      let token : TokenHasLeft none (key_of q) q.token = (both_left none (λ x on. absurd
-      (false≢true on)) fixed s w mixed a k m.copy.at).head q copied.here in
+      let token : TokenHasLeft none (key_of q) q.token = (both_left none fixed s w mixed a k m.copy.at).head q copied.here in
       answers_count_none none (key_of q) q.token.pid (call_in (planned q) m.out (is_last_of w.control.frame.index q)).ask
       (call_in (planned q) m.out (is_last_of w.control.frame.index q)).sent (is_last_of w.control.frame.index q) m.reply
       (host_in q) token.met (λ on. absurd (false≢true on)) (λ on. absurd (false≢true on)) (λ on. absurd (false≢true on))
 
   pub event_misses_none : HasErrorsLeft none (standing_then s w a) (controller_next fixed w)
-  event_misses_none = event_leaves_errors none (λ x on. absurd (false≢true on)) fixed s w mixed a k (λ empty. rings_none)
+  event_misses_none = event_leaves_errors none fixed s w mixed a k (λ empty. rings_none)
       (λ empty. frames_none)
 
 pub controller_misses_none : ControllerMissesNone

@@ -116,7 +116,7 @@ one_counts e (x ∷ xs) is = by (one_counts e xs) (e == x) refl
         let later = more (sym (ap (λ (b : Bool). b || is_one_of e xs) differs) ∙ is) in
         omega (arith, later)
 
-none_ringed : (d : DriverContent) (e : ℕ) (x : Endpoint) → HasOwners d → slice_get d.endpoints e ≡ Some x
+pub none_ringed : (d : DriverContent) (e : ℕ) (x : Endpoint) → HasOwners d → slice_get d.endpoints e ≡ Some x
     → is_periodic x.desc.kind ≡ true → may_meet d e x ≡ true → ⊥
 none_ringed d e x has here periodic near = by x.linked refl
   where

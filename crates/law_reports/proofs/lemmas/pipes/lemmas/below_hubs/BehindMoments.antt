@@ -30,7 +30,7 @@ use Rattle.law_reports.specs.pipes.puts.Paid.{Pays, HasPaid}
 use Rattle.law_reports.specs.pipes.below_hubs.Behind.{Spots, IsBehind, HasBehind}
 use Rattle.law_reports.specs.pipes.below_hubs.BehindLaws.{WorldFindsNoneTold, OpensSpot, ControllerKeepsBehind, DriverKeepsBehind}
 use Rattle.law_reports.specs.pipes.below_hubs.BehindLaws.{CommandKeepsBehind}
-use Rattle.law_reports.specs.pipes.below_hubs.BehindLaws.{spots_of, NewWorldIsBehind, ScriptsAreBehind, TextsAreBehind}
+use Rattle.law_reports.specs.pipes.below_hubs.BehindLaws.{spots_of, OpensUnsent, NewWorldIsBehind, ScriptsAreBehind, TextsAreBehind}
 use Rattle.law_reports.proofs.lemmas.pipes.Commanded.{commanded_piped}
 use Rattle.law_reports.proofs.lemmas.pipes.Controlled.{controlled}
 use Rattle.law_reports.proofs.lemmas.pipes.DeclaredOpens.{texts_declare}
@@ -120,6 +120,18 @@ command_keeps_behind fixed x o puts w line cmd fits declares spotted bytes room 
 pub none_there : (s : Script) (e : ℕ) (y : Endpoint) → slice_get (opening_world s).driver.endpoints e ≡ Some y → ⊥
 none_there s e y here = cc
 
+pub new_behind : (s : Script) (st : Standing) (m : Lines) → OpensUnsent s
+    → IsBehind (fixed_of s) (spots_of s) st m no_puts (opening_world s)
+new_behind s st m unsent = record {
+  ins = λ e y here there way. absurd (none_there s e y here);
+  first = tt;
+  spots = λ e y here. absurd (none_there s e y here);
+  hubs = λ hub port i place at. at;
+  met = λ e y here way on is_met. absurd (none_there s e y here);
+  fresh = λ addr ep on unused. unsent addr ep on;
+  left = none_left s m.acc ways.Out (spots_of s).has _;
+}
+
 pub new_world_is_behind : NewWorldIsBehind
 new_world_is_behind s fit bytes unsent =
     let p : HasPaid (fixed_of s) (sides_of s) no_puts (opening_world s) = new_world_is_paid s fit bytes in
@@ -129,15 +141,7 @@ new_world_is_behind s fit bytes unsent =
       heads = p.heads;
       piped = p.piped;
       pays = p.pays;
-      behind = record {
-        ins = λ e y here there way. absurd (none_there s e y here);
-        first = tt;
-        spots = λ e y here. absurd (none_there s e y here);
-        hubs = λ hub port i place at. at;
-        met = λ e y here way on is_met. absurd (none_there s e y here);
-        fresh = λ addr ep on unused. unsent addr ep on;
-        left = none_left s p.lines.acc ways.Out (spots_of s).has _;
-      };
+      behind = new_behind s p.standing p.lines unsent;
     }
 
 abbrev pub CanBeBehind : Sides → Spots → Cmd → Type 0

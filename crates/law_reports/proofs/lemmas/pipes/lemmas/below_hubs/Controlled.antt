@@ -34,7 +34,7 @@ use Rattle.law_reports.proofs.lemmas.pipes.lemmas.below_hubs.Asked.{asks_alone, 
 use Rattle.law_reports.proofs.lemmas.pipes.lemmas.below_hubs.HubStays.{event_keeps_hub}
 
 -- what stands of a queue head that is met is sound
-sound_at : (s : Standing) (w : World) → IsMixedAt s w → (e : ℕ) (y : Endpoint) → slice_get w.driver.endpoints e ≡ Some y
+pub sound_at : (s : Standing) (w : World) → IsMixedAt s w → (e : ℕ) (y : Endpoint) → slice_get w.driver.endpoints e ≡ Some y
     → IsMet (queued w.driver) e (queued_endpoint y)
     → IsQueuePart (32 * y.queue) (s.parts (32 * y.queue))
 sound_at s w mixed e y here is_met =

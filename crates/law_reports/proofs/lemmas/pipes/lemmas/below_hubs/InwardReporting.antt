@@ -65,7 +65,7 @@ use Rattle.law_reports.proofs.lemmas.pipes.lemmas.high_streams.Reporting.{all_ke
 
 -- ---- a hub at its place has its address
 
-position_passes : {X : Type 0} (p : X → Bool) (xs : List X) (i : ℕ) (x : X) → position p xs ≡ Some i → slice_get xs i ≡ Some x → p x ≡ true
+pub position_passes : {X : Type 0} (p : X → Bool) (xs : List X) (i : ℕ) (x : X) → position p xs ≡ Some i → slice_get xs i ≡ Some x → p x ≡ true
 position_passes p xs i x at here =
     found_passes p xs x (find_at p xs ∙ ap (slice_get xs) (by (nat_lt (position_or_len p xs) (length xs)) at) ∙ here)
   where

@@ -73,7 +73,7 @@ claimed_in_way x is =
     in_way x.name.way (and_parts (not (is_high x.speed)) (comes_in x.name.way)
     (and_parts (has_stream x.kind) (not (is_high x.speed) && comes_in x.name.way) is).1).1
 
-in_hub : (s : Script) (d : EpDesc) → takes_in s d ≡ true → HasItsHub s d
+pub in_hub : (s : Script) (d : EpDesc) → takes_in s d ≡ true → HasItsHub s d
 in_hub s d claims = by d.hub refl
   where
     both : (is_in_below d ≡ true) × (has_hub s d.hub d.port ≡ true)
@@ -193,7 +193,7 @@ module _ (text : List ℕ) (s : Script) (x : EpDesc) (spelled : Spells text s) (
   its : HasItsHub s x
   its = in_hub s x is.claims
 
-  unmoved : Unmoved (inlet_of s x) (opening_wired s)
+  pub unmoved : Unmoved (inlet_of s x) (opening_wired s)
   unmoved going timely =
       in_opens v.packets (told_key x.kind Directions.In (asked_as x)) v.hub v.place (opening_wired s) going timely
       (opens_without_keys s (its_way_of x.kind) (told_key x.kind Directions.In (asked_as x)) v.hub v.place its.text its.there its.less)

@@ -91,18 +91,18 @@ pub record SparesQueue (parts now : StructureSets) (hand later : Hand) (n pid : 
       → (parts n a ≡ Some (Element u)) ⊎ ((u.token.pid ≡ pid) × (u.token.split_state ≡ false))
 
 module _ (parts now : StructureSets) (hand later : Hand) (n pid : ℕ) (k : SparesQueue parts now hand later n pid) where
-  ways_stay : ((a : ℕ) (t : Qtd) → parts n a ≡ Some (Element t) → t.token.active ≡ true → t.token.pid ≡ pid)
+  pub ways_stay : ((a : ℕ) (t : Qtd) → parts n a ≡ Some (Element t) → t.token.active ≡ true → t.token.pid ≡ pid)
       → (a : ℕ) (t : Qtd) → now n a ≡ Some (Element t) → t.token.active ≡ true → t.token.pid ≡ pid
   ways_stay were a t here on =
       ⊎_elim (λ (was : parts n a ≡ Some (Element t)). were a t was on)
       (λ (new : (t.token.pid ≡ pid) × (t.token.split_state ≡ false)). new.0) (k.asks a t here on)
 
-  starts_stay : StartsFirst (parts n) → StartsFirst (now n)
+  pub starts_stay : StartsFirst (parts n) → StartsFirst (now n)
   starts_stay were a t here on =
       ⊎_elim (λ (was : parts n a ≡ Some (Element t)). were a t was on)
       (λ (new : (t.token.pid ≡ pid) × (t.token.split_state ≡ false)). new.1) (k.asks a t here on)
 
-  overlay_host : (q r : Qh) → SameOverlay q r → hand_host hand n r ≡ hand_host hand n q
+  pub overlay_host : (q r : Qh) → SameOverlay q r → hand_host hand n r ≡ hand_host hand n q
   overlay_host q r same = by hand
     where
       own : host_in r ≡ host_in q

@@ -28,7 +28,7 @@ use Rattle.law_scripts.proofs.lemmas.script_bytes.Texts.{a_text_spells_bytes}
 use Rattle.law_world.specs.steps.Streaming.{wired}
 use Rattle.law_world.specs.memory.Steps.{IsMixedNext}
 use Rattle.law_world.specs.streams.put_laws.TakenLaws.{IsKeptWithPuts}
-use Rattle.law_world.specs.streams.put_laws.TakenPuts.{puts_of, puts_at}
+use Rattle.law_world.specs.streams.put_laws.TakenPuts.{no_puts, puts_of, puts_at}
 use Rattle.law_world.proofs.lemmas.memory.Driving.{driver_tells_step}
 use Rattle.law_world.proofs.lemmas.memory.FittingTexts.{texts_open_fitting}
 use Rattle.law_world.proofs.lemmas.memory.Texts.{texts_fit}
@@ -135,6 +135,21 @@ none_queued s e y here = cc
 no_transfer : (s : Script) (t : ℕ) (y : _) → slice_get (queued (opening_world s).driver).transfers t ≡ Some y → ⊥
 no_transfer s t y here = cc
 
+pub new_pays : (s : Script) (st : Standing) (m : Lines) → Pays (fixed_of s) (sides_of s) st m no_puts (opening_world s)
+new_pays s st m = record {
+  outs = λ e y here there way. absurd (none_there s e y here);
+  ended = λ e y cause here alive sends over. absurd (none_queued s e y here);
+  held = record { each = λ t y there put held. absurd (no_transfer s t y there) };
+  owes = record {
+    going = λ e y here there sends goes. absurd (none_queued s e y here);
+    over = λ e y cause here there sends over. absurd (none_queued s e y here);
+    opening = λ e t y v here alive is there. absurd (none_queued s e y here);
+    last = λ t v y there here sends goes is held. absurd (no_transfer s t v there);
+  };
+  begin = λ e y u here life sends is. absurd (none_queued s e y here);
+  takers = λ e y here way on. absurd (none_there s e y here);
+}
+
 pub new_world_is_paid : NewWorldIsPaid
 new_world_is_paid s fit bytes =
     let p : HasPiped (fixed_of s) (sides_of s) (opening_world s) = new_world_is_piped s fit bytes in
@@ -143,19 +158,7 @@ new_world_is_paid s fit bytes =
       lines = p.lines;
       heads = p.heads;
       piped = p.piped;
-      pays = record {
-        outs = λ e y here there way. absurd (none_there s e y here);
-        ended = λ e y cause here alive sends over. absurd (none_queued s e y here);
-        held = record { each = λ t y there put held. absurd (no_transfer s t y there) };
-        owes = record {
-          going = λ e y here there sends goes. absurd (none_queued s e y here);
-          over = λ e y cause here there sends over. absurd (none_queued s e y here);
-          opening = λ e t y v here alive is there. absurd (none_queued s e y here);
-          last = λ t v y there here sends goes is held. absurd (no_transfer s t v there);
-        };
-        begin = λ e y u here life sends is. absurd (none_queued s e y here);
-        takers = λ e y here way on. absurd (none_there s e y here);
-      };
+      pays = new_pays s p.standing p.lines;
     }
 
 abbrev pub CanBePaid : Sides → Cmd → Type 0
