@@ -35,7 +35,7 @@ ghost use Rattle.app_forms.specs.Scripts.{FirstIsPlain, OfEachScript, OfEachPlai
 ghost use Rattle.claims_world.specs.BelowStreams.{KeepsStreams};
 ghost use Rattle.claims_world.specs.Ends.{EndsOnce};
 ghost use Rattle.claims_world.specs.Misses.{MissesAreBelowThroughout};
-ghost use Rattle.claims_world.specs.Quiet.{WhereHeardAbove, ErrorsAreBelowThroughout};
+ghost use Rattle.claims_world.specs.Quiet.{KeepsErrors};
 ghost use Rattle.claims_world.specs.Heard.{HearsThroughout};
 ghost use Rattle.claims_world.specs.Pending.{PendingIsCounted};
 ghost use Rattle.claims_world.specs.Refused.{CommandsHaveCauses};
@@ -216,7 +216,7 @@ pub fn ehci<S: Source, K: Sink>(
     ensures streams { OfEachPlainScript KeepsStreams (map string_bytes words.now) (S.left source.old) }
     ensures ends { OfEachPlainScript EndsOnce (map string_bytes words.now) (S.left source.old) }
     ensures misses { OfEachPlainScript MissesAreBelowThroughout (map string_bytes words.now) (S.left source.old) }
-    ensures errors { OfEachPlainScript (WhereHeardAbove ErrorsAreBelowThroughout) (map string_bytes words.now) (S.left source.old) }
+    ensures errors { OfEachPlainScript KeepsErrors (map string_bytes words.now) (S.left source.old) }
     ensures requests { OfEachPlainScript KeepsRequests (map string_bytes words.now) (S.left source.old) }
     ensures answers { OfEachPlainScript CommandsHaveCauses (map string_bytes words.now) (S.left source.old) }
     ensures places { (n : ℕ) → AreWordsOf (map string_bytes words.now) (Form.Load n) → (s : Script) → Spells (load_text n) s

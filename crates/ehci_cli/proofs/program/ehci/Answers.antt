@@ -4,7 +4,7 @@ use Rattle.ehci_cli.proofs.Memory.{source_keeps_memory, source_reaches_lent, sou
 use Rattle.ehci_cli.proofs.Memory.{source_keeps_links}
 use Rattle.ehci_cli.proofs.Places.{load_has_places}
 use Rattle.ehci_cli.proofs.Requests.{source_keeps_requests}
-use Rattle.ehci_cli.proofs.Streams.{source_ends_once, source_misses_below, source_fails_below, source_keeps_streams}
+use Rattle.ehci_cli.proofs.Streams.{source_ends_once, source_misses_below, source_keeps_errors, source_keeps_streams}
 use Rattle.ehci_cli.proofs.Visits.{source_keeps_visits, source_pays_within_load, source_is_in_time, source_ends_microframes, source_keeps_due, source_does_slots, source_keeps_to_work, source_repeats_after_losses}
 use Rattle.ehci_cli.proofs.Visits.{source_does_what_is_due_at_begin, source_does_slots_at_begin, source_keeps_translators}
 use Rattle.ehci_cli.proofs.Visits.{source_makes_splits, source_takes_results, source_goes_on_with_splits, source_serves_sitds}
@@ -110,7 +110,7 @@ pub returns-clause-misses : goal.returns-clause-misses
 returns-clause-misses g c = source_misses_below _ _
 
 pub returns-clause-errors : goal.returns-clause-errors
-returns-clause-errors g c = source_fails_below _ _
+returns-clause-errors g c = source_keeps_errors _ _
 
 pub returns-clause-requests : goal.returns-clause-requests
 returns-clause-requests g c = source_keeps_requests _ _
