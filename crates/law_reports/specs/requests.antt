@@ -26,6 +26,7 @@ pub mod HighLaws
 pub mod HighGiven
 pub mod AskedSamples
 pub mod CancelledTold
+pub mod CancelLine
 pub mod Ended
 pub mod Narrowing
 pub mod Missed

@@ -3,6 +3,7 @@
 //!
 //! - `asked_worked`: A worked request along its run, from its open to its act and to the line that tells it done (EHCI 1.0, 4.8 and 4.10; USB 2.0, 8.5.3).
 //! - `below`: Control endpoints below hubs (EHCI 1.0, 4.4 to 4.12; USB 2.0, 8.5.3, 11.17 and 11.18), at each event of the controller.
+//! - `cancel_line`: What the line of a cancel tells of the requests that wait (EHCI 1.0, 4.8.2 and 4.10; USB 2.0, 8.5.3).
 //! - `cancelled`: What the lines of a control endpoint that was cancelled tell, but for the one of its cancel (EHCI 1.0, 4.8.2; USB 2.0, 8.5.3).
 //! - `driver_requests`: The control requests of a driver's endpoints are those of the ring's queue heads (EHCI 1.0, 3.5, 3.6 and 4.10; USB 2.0, 8.5.3): each is
 //!   a transfer, and is found by the place of its SETUP.
@@ -28,6 +29,7 @@
 
 pub mod asked_worked;
 pub mod below;
+pub mod cancel_line;
 pub mod cancelled;
 pub mod driver_requests;
 pub mod harvests;

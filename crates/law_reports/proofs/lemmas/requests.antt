@@ -98,3 +98,4 @@ pub mod CancelledLines
 pub mod CancelledTold
 pub mod CancelledCommands
 pub mod CancelledMoments
+pub mod CancelLine

@@ -1,0 +1,13 @@
+//! The line of a cancel of a control endpoint at high speed (EHCI 1.0, 4.8.2 and 4.10; USB 2.0, 8.5.3).
+ghost use Rattle.law_reports.specs.requests.CancelLine.{RequestIsCounted, CancelIsBegun};
+
+/// Of a request that waits it tells the bytes that were moved of its data, whether the driver read them or not; none of its SETUP and of
+/// its status.
+pub fn a_request_is_counted()
+    ensures { RequestIsCounted }
+{}
+
+/// Where they begin its data, and so of each that waits, the line tells such beginnings, joined in the order of the requests.
+pub fn a_cancel_is_begun()
+    ensures { CancelIsBegun }
+{}
