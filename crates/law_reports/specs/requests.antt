@@ -27,6 +27,7 @@ pub mod HighGiven
 pub mod AskedSamples
 pub mod CancelledTold
 pub mod CancelLine
+pub mod LeftStays
 pub mod Ended
 pub mod Narrowing
 pub mod Missed

@@ -99,3 +99,5 @@ pub mod CancelledTold
 pub mod CancelledCommands
 pub mod CancelledMoments
 pub mod CancelLine
+pub mod CancelWaits
+pub mod LeftStays

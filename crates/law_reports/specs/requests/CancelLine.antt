@@ -8,25 +8,33 @@
 --     HaveBegun ..               so is each of these transfers
 --     RequestIsCounted           the law: of a request that waits just these bytes are told
 --     CancelIsBegun              .. so the line tells beginnings of the data of all that wait, joined in their order
-use Rattle.std.specs.Prelude.{◌≡◌, ℕ, suc, ◌<◌, ◌≤◌, ◌*◌, true, false, List, [], ◌∷◌, ◌++◌, length, take, map, if◌then◌else◌}
+--     CourseBegins               .. what is told of the data of any request of a queue begins them
+--     WaitsAreUnreported         where lines tell of requests in their order, those that wait are those that no line tells of
+use Rattle.std.specs.Prelude.{◌≡◌, ℕ, suc, ◌<◌, ◌≤◌, ◌*◌, true, false, List, [], ◌∷◌, ◌++◌, length, take, map, Option, if◌then◌else◌}
+use Rattle.usb_base.specs.declared.endpoints.EpName.{EpName}
 use Rattle.usb_base.specs.declared.reports.What.TheVariants.{Cancel}
 use Rattle.word_mem.specs.Memory.{Mem}
 use Rattle.claims_base.specs.Prefix.{IsPrefix}
+use Rattle.claims_report.specs.ControlSides.{Device}
 use Rattle.claims_report.specs.Requests.{Request, IsTold}
 use Rattle.claims_world.specs.Requests.{Windows, window_at}
 use Rattle.drv_table.specs.declared.content.QtdNote.{QtdNote}
 use Rattle.drv_table.specs.declared.content.Transfer.{Transfer}
-use Rattle.drv_table.specs.DriverContent.{waits_for}
+use Rattle.drv_table.specs.DriverContent.{DriverContent, waits_for}
 use Rattle.drv_table.specs.Harvests.{note_at, bytes_now}
 use Rattle.drv_table.specs.Releases.{cancelled_bytes}
 use Rattle.drv_table.specs.Words.{request_stages}
+use Rattle.law_driver.specs.chained_transfers.Turns.{AreInTurn}
 use Rattle.law_driver_ring.specs.told_harvests.Held.{IsDone, told_of, IsRead}
 use Rattle.law_queues.specs.cancelled_bytes.Cancelled.{SettlesElsewhere}
 use Rattle.law_request.specs.Host.{has_data}
+use Rattle.law_request.specs.Windows.{data_of}
 use Rattle.law_ring.specs.Hand.{Hand}
 use Rattle.law_ring.specs.Told.{Told}
 use Rattle.law_structures.specs.lent_structures.Structures.{StructureSets, Tells}
+use Rattle.law_reports.specs.requests.Courses.{Course, queue_in, IsCourse}
 use Rattle.law_reports.specs.requests.Reading.{IsSilent}
+use Rattle.law_reports.specs.requests.Telling.{IsTelling}
 use Rattle.law_reports.specs.requests.request_bytes.Fresh.{next_of}
 
 -- ---- one request
@@ -73,3 +81,15 @@ CancelIsBegun = (m : Mem) (hand : Hand) (parts : StructureSets) (queue : ℕ) (n
     (asks : ℕ → Request) (v : Windows) (e k : ℕ) (ts : List Transfer) → Tells m parts → SettlesElsewhere hand (32 * queue)
     → HaveBegun hand parts (32 * queue) notes whole asks e k ts
     → IsTold whole Cancel (cancelled_bytes notes m e queue ts) (map (window_at asks v) (waiting_from e k ts))
+
+-- ---- of which requests they are
+
+-- whether it is under way, done or behind those
+abbrev pub CourseBegins : {W : Type 0} → (W → ℕ → ℕ → Option Device) → Type 0
+CourseBegins {W} device = (c : Course) (hand : Hand) (parts : StructureSets) (wire : W) (n i : ℕ) (bytes : List ℕ)
+    → IsCourse device parts hand wire n c → i < (queue_in c).count → has_data ((queue_in c).requests i) ≡ true
+    → Told hand parts n ((queue_in c).places i).data_at bytes → IsPrefix bytes (data_of (queue_in c).endpoint ((queue_in c).requests i))
+
+abbrev pub WaitsAreUnreported : Type 0
+WaitsAreUnreported = (d : DriverContent) (asks : ℕ → Request) (e : ℕ) (name : EpName) (whole : Request → List ℕ) (v : Windows)
+    (reported waits : List ℕ) → AreInTurn d → IsTelling d asks e name whole v reported waits → waits ≡ waiting_from e 0 d.transfers

@@ -62,7 +62,7 @@ module _ (s : Standing) (m : Lines) (w new : World) (k : IsMixedAt s w) (g : IsT
   turns : AsynchronousTakesTurns (queued w.driver)
   turns = k.turns.turns
 
-  told_all : QueuesAreTold s.parts (told_parts w) s.order s.out
+  pub told_all : QueuesAreTold s.parts (told_parts w) s.order s.out
   told_all = record {
     driven = driven_of s w k;
     owners = owners_of s w k;
@@ -77,7 +77,7 @@ module _ (s : Standing) (m : Lines) (w new : World) (k : IsMixedAt s w) (g : IsT
     rise = k.queues.controls.rises;
   }
 
-  leaves : ReleaseLeaves s.parts (told_parts w) s.order s.out t y x (32 * x.queue) (goes_of w.driver y)
+  pub leaves : ReleaseLeaves s.parts (told_parts w) s.order s.out t y x (32 * x.queue) (goes_of w.driver y)
   leaves =
       release_stays s.parts (told_parts w) s.order s.out t y x told_all r
       (k.queues.sound y.endpoint x r.endpoint (met s.parts (told_parts w) s.order s.out t y x told_all r))
@@ -100,7 +100,7 @@ module _ (s : Standing) (m : Lines) (w new : World) (k : IsMixedAt s w) (g : IsT
           let one_transfer : v ≡ y = same_Some v y (sym is.transfer ∙ ap (slice_get (queued w.driver).transfers) same ∙ r.here) in
           true≢false (sym r.reported ∙ ap (λ (q : Transfer). q.reported) (sym one_transfer) ∙ waits)
 
-  spares_at : (i a : ℕ) → goes_of w.driver y a ≡ false → SparesElement s.parts (without_those s.parts (32 * x.queue) (goes_of w.driver y))
+  pub spares_at : (i a : ℕ) → goes_of w.driver y a ≡ false → SparesElement s.parts (without_those s.parts (32 * x.queue) (goes_of w.driver y))
       i a
   spares_at i a stays =
       ⊎_elim (λ (same : i ≡ n).
