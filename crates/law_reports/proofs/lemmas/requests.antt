@@ -94,6 +94,7 @@ pub mod HighLeft
 pub mod HighOpened
 pub mod HighMoments
 pub mod AskedSampled
+pub mod AskedMidway
 pub mod CancelledLines
 pub mod CancelledTold
 pub mod CancelledCommands

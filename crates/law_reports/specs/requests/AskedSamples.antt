@@ -8,6 +8,8 @@
 --     its_window acts   its only request is the read, and these are the acts in its window
 --     asked_cancelled   the script with a cancel behind it, two events of the driver and two microframes
 --     cancelled_lines   its lines once all is carried out
+--     asked_midway      the script with a cancel once the data came in, before the driver read anything
+--     midway_lines      its lines once all is carried out
 --     asked_hub         a script that opens the control endpoint of its hub 4
 use Rattle.std.specs.Prelude.{ℕ, List, [], ◌∷◌}
 use Rattle.usb_base.specs.declared.commands.Cmd.TheVariants as commands
@@ -66,6 +68,22 @@ cancelled_lines = lines_of (report_at asked_cancelled 100) zero.name
 
 abbrev pub its_window : List (List ℕ) → Window
 its_window acts = record { request = record { setup = reading; bytes = [] }; acts = acts }
+
+abbrev pub asked_midway : Script
+asked_midway = record asked_once {
+  lines = (5, lines.Command (commands.OpenEp zero))
+      ∷ (6, lines.Order events.D 2)
+      ∷ (7, lines.Command (commands.Control zero.name reading []))
+      ∷ (8, lines.Order events.D 9)
+      ∷ (9, lines.Order events.C 17)
+      ∷ (10, lines.Command (commands.Cancel zero.name))
+      ∷ (11, lines.Order events.D 2)
+      ∷ (12, lines.Micro 2)
+      ∷ [];
+}
+
+abbrev pub midway_lines : List Report
+midway_lines = lines_of (report_at asked_midway 100) zero.name
 
 abbrev pub asked_hub : Script
 asked_hub = record beside_bulk {

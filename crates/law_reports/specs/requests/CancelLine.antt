@@ -9,15 +9,18 @@
 --     RequestIsCounted           the law: of a request that waits just these bytes are told
 --     CancelIsBegun              .. so the line tells beginnings of the data of all that wait, joined in their order
 --     CourseBegins               .. what is told of the data of any request of a queue begins them
+--     MetBegins                  .. and so the data that the script has for it, while a walk may meet the endpoint
 --     WaitsAreUnreported         where lines tell of requests in their order, those that wait are those that no line tells of
-use Rattle.std.specs.Prelude.{◌≡◌, ℕ, suc, ◌<◌, ◌≤◌, ◌*◌, true, false, List, [], ◌∷◌, ◌++◌, length, take, map, Option, if◌then◌else◌}
+use Rattle.std.specs.Prelude.{◌≡◌, ℕ, suc, ◌<◌, ◌≤◌, ◌*◌, Bool, true, false, List, [], ◌∷◌, length, take, map, Option, if◌then◌else◌}
 use Rattle.usb_base.specs.declared.endpoints.EpName.{EpName}
 use Rattle.usb_base.specs.declared.reports.What.TheVariants.{Cancel}
 use Rattle.word_mem.specs.Memory.{Mem}
+use Rattle.bus_wire.specs.Bus.{Wired}
 use Rattle.claims_base.specs.Prefix.{IsPrefix}
 use Rattle.claims_report.specs.ControlSides.{Device}
 use Rattle.claims_report.specs.Requests.{Request, IsTold}
 use Rattle.claims_world.specs.Requests.{Windows, window_at}
+use Rattle.drv_table.specs.declared.content.Endpoint.{Endpoint}
 use Rattle.drv_table.specs.declared.content.QtdNote.{QtdNote}
 use Rattle.drv_table.specs.declared.content.Transfer.{Transfer}
 use Rattle.drv_table.specs.DriverContent.{DriverContent, waits_for}
@@ -25,13 +28,14 @@ use Rattle.drv_table.specs.Harvests.{note_at, bytes_now}
 use Rattle.drv_table.specs.Releases.{cancelled_bytes}
 use Rattle.drv_table.specs.Words.{request_stages}
 use Rattle.law_driver.specs.chained_transfers.Turns.{AreInTurn}
-use Rattle.law_driver_ring.specs.told_harvests.Held.{IsDone, told_of, IsRead}
+use Rattle.law_driver_ring.specs.told_harvests.Held.{told_of, IsRead}
 use Rattle.law_queues.specs.cancelled_bytes.Cancelled.{SettlesElsewhere}
 use Rattle.law_request.specs.Host.{has_data}
 use Rattle.law_request.specs.Windows.{data_of}
 use Rattle.law_ring.specs.Hand.{Hand}
 use Rattle.law_ring.specs.Told.{Told}
 use Rattle.law_structures.specs.lent_structures.Structures.{StructureSets, Tells}
+use Rattle.law_reports.specs.requests.Asking.{Sides, Asking, AsksIn, IsMetControl}
 use Rattle.law_reports.specs.requests.Courses.{Course, queue_in, IsCourse}
 use Rattle.law_reports.specs.requests.Reading.{IsSilent}
 use Rattle.law_reports.specs.requests.Telling.{IsTelling}
@@ -42,7 +46,7 @@ use Rattle.law_reports.specs.requests.request_bytes.Fresh.{next_of}
 pub record IsDataTold (hand : Hand) (parts : StructureSets) (n : ℕ) (notes : List QtdNote) (b left : ℕ) (bytes : List ℕ) : Type 0 where
   pub read : IsRead (parts n) (note_at notes b) b
   pub told : Told hand parts n (32 * b) bytes
-  pub done : left ≡ 1 → IsDone hand parts n b (note_at notes b).moved bytes
+  pub done : left ≡ 1 → length bytes ≡ (note_at notes b).moved
 
 pub record IsCounted (hand : Hand) (parts : StructureSets) (n : ℕ) (notes : List QtdNote) (y : Transfer) (r : Request) (bytes : List ℕ)
     : Type 0 where
@@ -89,6 +93,14 @@ abbrev pub CourseBegins : {W : Type 0} → (W → ℕ → ℕ → Option Device)
 CourseBegins {W} device = (c : Course) (hand : Hand) (parts : StructureSets) (wire : W) (n i : ℕ) (bytes : List ℕ)
     → IsCourse device parts hand wire n c → i < (queue_in c).count → has_data ((queue_in c).requests i) ≡ true
     → Told hand parts n ((queue_in c).places i).data_at bytes → IsPrefix bytes (data_of (queue_in c).endpoint ((queue_in c).requests i))
+
+abbrev pub MetBegins : Type 0
+MetBegins = (g : Sides) (member : ℕ → Bool) (parts : StructureSets) (hand : Hand) (a : Asking) (v : Windows) (asks : ℕ → Request)
+    (d : DriverContent) (m : Mem) (wire : Wired) → AsksIn g member parts hand a v asks d m wire → (e i : ℕ) (x : Endpoint)
+    (bytes : List ℕ) → IsMetControl g d e x → i < (queue_in (a.courses (32 * x.queue))).count
+    → has_data ((queue_in (a.courses (32 * x.queue))).requests i) ≡ true
+    → Told hand parts (32 * x.queue) ((queue_in (a.courses (32 * x.queue))).places i).data_at bytes
+    → IsPrefix bytes (g.whole x.desc.name ((queue_in (a.courses (32 * x.queue))).requests i))
 
 abbrev pub WaitsAreUnreported : Type 0
 WaitsAreUnreported = (d : DriverContent) (asks : ℕ → Request) (e : ℕ) (name : EpName) (whole : Request → List ℕ) (v : Windows)

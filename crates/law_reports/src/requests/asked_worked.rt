@@ -8,7 +8,7 @@ ghost use Rattle.claims_report.specs.Requests.{data_of, AreTold};
 ghost use Rattle.claims_world.specs.Requests.{report_at, windows_then, before_cancel, IsOfDevice};
 ghost use Rattle.law_devices.specs.declared_controls.Samples.{zero, reading};
 ghost use Rattle.law_reports.specs.requests.AskedSamples.{asked_once, asked_windows, asked_lines, its_window, asked_hub};
-ghost use Rattle.law_reports.specs.requests.AskedSamples.{asked_cancelled, cancelled_lines};
+ghost use Rattle.law_reports.specs.requests.AskedSamples.{asked_cancelled, cancelled_lines, asked_midway, midway_lines};
 
 /// A request comes to its act: the device acts as it first answers the status, and not before.
 pub fn a_request_is_acted_on()
@@ -38,6 +38,20 @@ pub fn a_cancelled_endpoint_is_told()
     ensures lines { cancelled_lines ≡ record { name = zero.name; what = Done; from = 0; len = 2 }
         ∷ record { name = zero.name; what = Cancel; from = 2; len = 0 } ∷ [] }
     ensures before { before_cancel cancelled_lines ≡ record { name = zero.name; what = Done; from = 0; len = 2 } ∷ [] }
+{}
+
+/// It is cancelled once its data came in, and no line tells it done, though the walk meets its queue head until the doorbell is answered
+/// and the device acts: the line of the cancel tells the two bytes, which begin the data of the request. With another byte it would be
+/// wrong.
+pub fn a_request_is_cancelled_midway()
+    ensures over { (moment asked_midway 100).orders ≡ [] }
+    ensures window { windows_then asked_midway 100 0 ≡ its_window (reading ∷ []) ∷ [] }
+    ensures line { midway_lines ≡ record { name = zero.name; what = Cancel; from = 0; len = 2 } ∷ [] }
+    ensures bytes { (report_at asked_midway 100).store ≡ 18 ∷ 1 ∷ [] }
+    ensures told { AreTold (data_of asked_midway zero.name) (18 ∷ 1 ∷ []) (its_window (reading ∷ []) ∷ [])
+        (record { name = zero.name; what = Cancel; from = 0; len = 2 } ∷ []) }
+    ensures wrong { AreTold (data_of asked_midway zero.name) (4 ∷ []) (its_window (reading ∷ []) ∷ [])
+        (record { name = zero.name; what = Cancel; from = 0; len = 1 } ∷ []) → ⊥ }
 {}
 
 /// A line that tells it done before its act would be wrong; and of a hub's own endpoint the clause says nothing.

@@ -1,7 +1,7 @@
 //! The line of a cancel of a control endpoint at high speed (EHCI 1.0, 4.8.2 and 4.10; USB 2.0, 8.5.3).
 ghost use Rattle.claims_report.specs.Controls.{control_of};
-ghost use Rattle.law_reports.specs.requests.CancelLine.{RequestIsCounted, CancelIsBegun, CourseBegins, WaitsAreUnreported};
-ghost use Rattle.law_reports.specs.requests.LeftStays.{StepLeavesTold};
+ghost use Rattle.law_reports.specs.requests.CancelLine.{RequestIsCounted, CancelIsBegun, CourseBegins, MetBegins, WaitsAreUnreported};
+ghost use Rattle.law_reports.specs.requests.LeftStays.{StepLeavesTold, EventLeavesTold};
 
 /// Of a request that waits it tells the bytes that were moved of its data, whether the driver read them or not; none of its SETUP and of
 /// its status.
@@ -14,14 +14,17 @@ pub fn a_cancel_is_begun()
     ensures { CancelIsBegun }
 {}
 
-/// What is told of the data of any request of a queue begins them, whether it is done, under way or behind; and those that wait are those
-/// that no line tells of.
+/// What is told of the data of any request of a queue begins them, whether it is done, under way or behind, and so the data that the script
+/// has for it; and those that wait are those that no line tells of.
 pub fn those_that_wait_begin()
     ensures begins { CourseBegins control_of }
+    ensures met { MetBegins }
     ensures waits { WaitsAreUnreported }
 {}
 
-/// Until an endpoint that left is given back, each event of the driver leaves what is told of its requests that wait.
-pub fn a_step_leaves_what_is_told()
-    ensures { StepLeavesTold }
+/// Until an endpoint that left is given back, each event of the driver leaves what is told of its requests that wait, and each event of the
+/// controller leaves all that is told of it.
+pub fn what_is_told_stays()
+    ensures driver { StepLeavesTold }
+    ensures controller { EventLeavesTold }
 {}

@@ -1,27 +1,25 @@
 -- The line of a cancel tells beginnings of the data of the requests that wait.
-use Rattle.std.proofs.Common.{◌≡◌, ◌≢◌, ℕ, zero, suc, ◌+◌, ◌*◌, ◌<◌, ◌≤◌, nat_lt, Bool, true, false, if◌then◌else◌, List, [], ◌∷◌, ◌++◌}
+use Rattle.std.proofs.Common.{◌≡◌, ℕ, suc, ◌+◌, ◌*◌, ◌<◌, ◌≤◌, nat_lt, Bool, true, false, if◌then◌else◌, List, [], ◌∷◌, ◌++◌}
 use Rattle.std.proofs.Common.{◌-◌, length, map, take, ap, refl, sym, subst, ◌∙◌, ⊎_elim, arith}
-use Rattle.std.proofs.lemmas.Bool.{cases_eq, lt-ltb, le-ltb, ltb-true}
+use Rattle.std.proofs.lemmas.Bool.{ltb-true}
 use Rattle.std.proofs.lemmas.List.{append-nil}
+use Rattle.std.proofs.lemmas.List.FromFn.{length-map-range_with_len}
 use Rattle.law_common.proofs.Lists.{take_whole}
-use Rattle.usb_base.specs.declared.reports.What.TheVariants.{Cancel}
 use Rattle.word_mem.specs.Memory.{Mem}
-use Rattle.claims_base.specs.Prefix.{IsPrefix}
+use Rattle.word_mem.specs.Views.{byte_at}
 use Rattle.claims_driver.specs.Owners.{note_in}
-use Rattle.claims_report.specs.Requests.{Request, Window, IsTold, AreBegun}
+use Rattle.claims_report.specs.Requests.{Request, Window, AreBegun}
 use Rattle.claims_world.specs.Requests.{Windows, window_at}
 use Rattle.drv_table.specs.declared.content.QtdNote.{QtdNote}
 use Rattle.drv_table.specs.declared.content.Transfer.{Transfer}
 use Rattle.drv_table.specs.DriverContent.{waits_for}
-use Rattle.drv_table.specs.Harvests.{note_at, buffer_bytes, moved_now, moved_of, left_now, bytes_now}
+use Rattle.drv_table.specs.Harvests.{note_at, buffer_address, buffer_bytes, moved_now, left_now, bytes_now}
 use Rattle.drv_table.specs.Releases.{cancelled_bytes}
-use Rattle.drv_table.specs.Words.{request_stages}
 use Rattle.law_driver.specs.chained_transfers.Chains.{piece_at}
 use Rattle.law_driver_ring.proofs.Common.{moved_is}
 use Rattle.law_driver_ring.specs.told_harvests.Held.{told_of}
 use Rattle.law_queues.specs.cancelled_bytes.Cancelled.{SettlesElsewhere}
-use Rattle.law_queues.proofs.lemmas.cancelled_bytes.Counting.{qtd_counted, done_counted, told_long}
-use Rattle.law_request.specs.Host.{has_data}
+use Rattle.law_queues.proofs.lemmas.cancelled_bytes.Counting.{qtd_counted, told_long}
 use Rattle.law_ring.specs.Hand.{Hand}
 use Rattle.law_structures.specs.lent_structures.Structures.{StructureSets, Tells}
 use Rattle.law_reports.specs.requests.CancelLine.{IsDataTold, IsCounted, RequestIsCounted, waiting_from, HasBegun, HaveBegun, CancelIsBegun}
@@ -33,6 +31,10 @@ use Rattle.law_reports.proofs.lemmas.requests.lemmas.driver_requests.Owning.{qtd
 no_bytes : (m : Mem) (note : QtdNote) → buffer_bytes m note 0 ≡ []
 unfolding buffer_bytes
 no_bytes m note = refl
+
+buffer_long : (m : Mem) (note : QtdNote) (n : ℕ) → length (buffer_bytes m note n) ≡ n
+unfolding buffer_bytes
+buffer_long m note n = length-map-range_with_len (λ (j : ℕ). byte_at m (buffer_address note j)) 0 n
 
 module _ (m : Mem) (queue : ℕ) (notes : List QtdNote) where
   none_now : (b left : ℕ) → bytes_now notes m queue b 0 left ≡ []
@@ -94,8 +96,10 @@ module _ (m : Mem) (hand : Hand) (parts : StructureSets) (queue : ℕ) (notes : 
     data_now t true is =
         let less = ltb-true y.left 2 is in
         let some = k.left in
-        done_counted m parts hand queue tells elsewhere next (note next).moved (note next) bytes t.read
-        (t.done (omega (arith, less, some)))
+        let by_token = qtd_counted m parts hand queue tells elsewhere next (note next) bytes t.read t.told in
+        ap (buffer_bytes m (note next))
+        (sym (t.done (omega (arith, less, some))) ∙ ap length (sym by_token)
+        ∙ buffer_long m (note next) (moved_now m queue next (note next) false)) ∙ by_token
     data_now t false is = qtd_counted m parts hand queue tells elsewhere next (note next) bytes t.read t.told
 
     three : IsDataTold hand parts (32 * queue) notes (next_of notes y.first) y.left bytes → y.qtds ≡ 3

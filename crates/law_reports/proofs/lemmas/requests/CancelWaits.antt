@@ -1,18 +1,19 @@
 -- Of any request of a queue that waits the bytes moved of its data begin them; and those that wait are those that no line tells of.
-use Rattle.std.proofs.Common.{◌≡◌, ◌≢◌, ℕ, zero, suc, ◌+◌, ◌<◌, ◌≤◌, ◌==◌, ◌&&◌, not, nat_eq, Bool, true, false, if◌then◌else◌, List, [], ◌∷◌, ◌++◌}
+use Rattle.std.proofs.Common.{◌≡◌, ◌≢◌, ℕ, suc, ◌+◌, ◌*◌, ◌<◌, ◌≤◌, ◌==◌, ◌&&◌, not, Bool, true, false, if◌then◌else◌, List, [], ◌∷◌, ◌++◌}
 use Rattle.std.proofs.Common.{length, drop, slice_get, Option, Some, cond, ap, refl, sym, subst, ◌∙◌, ⊎_elim, arith}
 use Rattle.std.specs.Prelude.{count_by, option_map}
-use Rattle.std.proofs.lemmas.Bool.{cases_eq, cases_lt, and_parts, eqb-true, true≢false, false≢true}
+use Rattle.std.proofs.lemmas.Bool.{cases_eq, cases_lt, eqb-true, true≢false}
 use Rattle.std.proofs.lemmas.List.{length-append}
 use Rattle.std.proofs.lemmas.List.Sums.{sum_by-cons}
 use Rattle.law_driver_ring.proofs.Common.{one_told}
 use Rattle.claims_base.specs.Prefix.{IsPrefix}
+use Rattle.claims_report.specs.Controls.{control_of}
 use Rattle.claims_report.specs.ControlSides.{Device}
 use Rattle.claims_world.specs.Requests.{numbers_from}
 use Rattle.drv_table.specs.declared.content.Transfer.{Transfer}
 use Rattle.drv_table.specs.DriverContent.{waits_for}
-use Rattle.law_driver.specs.chained_transfers.Turns.{turn_of, turn_in}
-use Rattle.law_request.specs.Host.{has_data}
+use Rattle.law_driver.specs.chained_transfers.Turns.{turn_of}
+use Rattle.law_request.specs.Host.{Endpoint, has_data}
 use Rattle.law_request.specs.Line.{Line}
 use Rattle.law_request.specs.Windows.{IsRight, data_of}
 use Rattle.law_request.proofs.Steps.{window_is_right}
@@ -20,8 +21,8 @@ use Rattle.law_ring.specs.Hand.{Hand}
 use Rattle.law_ring.specs.Told.{Told}
 use Rattle.law_structures.specs.lent_structures.Structures.{StructureSets}
 use Rattle.law_devices.specs.ring_requests.Windows.{Queue, Lines, sent_at, IsWindow, IsFinished, IsBehind, IsQueue}
-use Rattle.law_reports.specs.requests.CancelLine.{waiting_from, CourseBegins, WaitsAreUnreported}
-use Rattle.law_reports.specs.requests.Courses.{NoQueue, Asks, Rests}
+use Rattle.law_reports.specs.requests.CancelLine.{waiting_from, CourseBegins, MetBegins, WaitsAreUnreported}
+use Rattle.law_reports.specs.requests.Courses.{Course, queue_in, NoQueue, Asks, Rests}
 
 -- ---- of a queue
 
@@ -61,6 +62,14 @@ course_begins device (Asks v b l) hand parts wire n i bytes k within some told =
     of_queue v hand parts n i bytes some told l (device wire v.endpoint.addr v.endpoint.num) k.queue within
 course_begins device (Rests v b c) hand parts wire n i bytes k within some told =
     of_behind v hand parts n i bytes some told (k.behind i within)
+
+-- .. of an endpoint that the walk may meet
+pub met_begins : MetBegins
+met_begins g member parts hand a v asks d m wire q e i x bytes k within some told =
+    let c : Course = a.courses (32 * x.queue) in
+    subst (IsPrefix bytes) (sym ((q.given e x k.is).replies ((queue_in c).requests i)))
+    (subst (λ (o : Endpoint). IsPrefix bytes (data_of o ((queue_in c).requests i))) (q.each e x k).endpoint
+    (course_begins control_of c hand parts wire (32 * x.queue) i bytes (q.stand.each (32 * x.queue)) within some told))
 
 -- ---- who waits
 
@@ -151,7 +160,8 @@ module _ (e : ℕ) where
 pub waits_are_unreported : WaitsAreUnreported
 waits_are_unreported d asks e name whole v reported waits turns k =
     let order : AreInOrder e d.transfers = λ t u y z less at there of also told.
-    turns.turns.reported t u (turn_of y) (turn_of z) less (ap (option_map turn_of) at) (ap (option_map turn_of) there) (also ∙ sym of) told in
+    turns.turns.reported t u (turn_of y) (turn_of z) less (ap (option_map turn_of) at) (ap (option_map turn_of) there)
+    (also ∙ sym of) told in
     let w : EndsWaiting e 0 d.transfers = ends e 0 d.transfers order in
     same_end reported w.before waits (waiting_from e 0 d.transfers) (sym k.numbers ∙ w.are)
     (k.wait ∙ sym (count_waiting e 0 d.transfers))
