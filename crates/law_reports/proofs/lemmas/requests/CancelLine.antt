@@ -151,12 +151,14 @@ module _ (m : Mem) (hand : Hand) (parts : StructureSets) (queue : ℕ) (notes : 
         → Begun (cancelled_bytes notes m e queue ys) (waiting_from e (suc k) ys)
         → Begun ((if b then take y.most (bytes_now notes m queue y.first y.qtds y.left) else []) ++ cancelled_bytes notes m e queue ys)
         (if b then k ∷ waiting_from e (suc k) ys else waiting_from e (suc k) ys)
-
     by k y ys true is has rest =
-        let h = has refl in
-        (h.bytes, cancelled_bytes notes m e queue ys,
-            ap (λ (bs : List ℕ). bs ++ cancelled_bytes notes m e queue ys) (counted y (asks k) h.bytes h.counted), h.begins,
-            rest)
+        let h = has refl in (
+          h.bytes,
+          cancelled_bytes notes m e queue ys,
+          ap (λ (bs : List ℕ). bs ++ cancelled_bytes notes m e queue ys) (counted y (asks k) h.bytes h.counted),
+          h.begins,
+          rest,
+        )
     by k y ys false is has rest = rest
 
     begun : (k : ℕ) (ts : List Transfer) → HaveBegun hand parts (32 * queue) notes whole asks e k ts

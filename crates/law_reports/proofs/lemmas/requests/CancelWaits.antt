@@ -38,9 +38,11 @@ module _ (v : Queue) (hand : Hand) (parts : StructureSets) (n i : ℕ) (bytes : 
 
   -- of one that isn't begun none were moved
   of_behind : IsBehind (sent_at v i) hand parts n → Begins
-  of_behind b =
-      (data_of v.endpoint (v.requests i), ap (λ (xs : List ℕ). xs ++ data_of v.endpoint (v.requests i))
-      (one_told hand parts n (v.places i).data_at bytes [] told (b.none_told some)))
+  of_behind b = (
+    data_of v.endpoint (v.requests i),
+    ap (λ (xs : List ℕ). xs ++ data_of v.endpoint (v.requests i))
+        (one_told hand parts n (v.places i).data_at bytes [] told (b.none_told some)),
+  )
 
   of_queue : (l : Lines) (o : Option Device) → IsQueue v l hand parts n o → i < v.count → Begins
   of_queue l o k within =
