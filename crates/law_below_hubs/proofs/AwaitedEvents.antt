@@ -238,7 +238,7 @@ module _ (code : ℕ) (near : ℕ → Bool) (n : ℕ) (x : Endpoint) (i place : 
         by : Made m → (m.kind ≡ Kinds.Bulk) × (m.last ≡ false)
         by (by_ring on kind_at_is never) =
             (kind_at_is ∙ ap kind_at (ap (λ (y : Qh). y.dtc) queue_is ∙ ap (λ (e : Endpoint). e.dtc) (sym k.is) ∙ k.own), never)
-        by (by_frames on framed r one_copy) = absurd (unmet (ap met (sym at) ∙ on))
+        by (by_frames on framed r one_copy last_is) = absurd (unmet (ap met (sym at) ∙ on))
 
     -- what is known of the transaction, by the queue head and its kind
     record IsMade (y : Qh) (kind : EpKind) (last : Bool) : Type 0 where
@@ -288,7 +288,7 @@ module _ (code : ℕ) (near : ℕ → Bool) (n : ℕ) (x : Endpoint) (i place : 
       where
         by : (code ≡ 1) ⊎ (code ≡ 0) → RestsToStart (settlement_as Kinds.Bulk k.queue m.out false m.reply).host
         by (inl inward) =
-            own_in_rests q m.out m.reply (record { below = host_is.below; inward = pid_is ∙ inward; goes_on = working.goes_on }) works
+            own_in_rests Kinds.Bulk false q m.out m.reply refl (record { below = host_is.below; inward = pid_is ∙ inward; goes_on = working.goes_on }) works
         by (inr outward) =
             own_out_rests Kinds.Bulk false q m.out m.reply refl (record { below = host_is.below; out = pid_is ∙ outward; works = works })
             (sent_all m.sent.all)

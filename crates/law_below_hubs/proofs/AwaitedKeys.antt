@@ -37,7 +37,7 @@ use Rattle.hc_copy.specs.declared.held.Transaction.{Transaction}
 use Rattle.hc_copy.specs.Planning.{pid_at, speed_at, host_in, transaction_of}
 use Rattle.hc_copy.specs.Transacting.{call_in, host_after}
 use Rattle.law_devices.specs.scripted_requests.Controls.{transacts_by}
-use Rattle.law_translated.specs.Lift.{Buffered, IsQuiet, told, Empty, Asked, Hidden, There, Told}
+use Rattle.law_translated.specs.Lift.{Way, Buffered, IsQuiet, told, Empty, Asked, Hidden, There, Told}
 use Rattle.law_translated.specs.KeyHubs.{HubStartsOwn, HubCompletesOwn}
 use Rattle.law_translated.specs.KeyLaws.{start_of}
 use Rattle.law_translated.specs.KeySlots.{KeySlot, way_of}
@@ -49,7 +49,7 @@ use Rattle.law_below_hubs.specs.Awaited.{suits, is_toggled, IsAwaited, StandsAs,
 use Rattle.law_below_hubs.specs.Awaited.{OwnSplitsAreAwaited, OthersLeaveKey}
 use Rattle.law_below_hubs.specs.HubsKeys.{HubsHave}
 use Rattle.law_below_hubs.specs.HostIns.{SparesKey}
-use Rattle.law_below_hubs.specs.HostOuts.{IsOfOther}
+use Rattle.law_below_hubs.specs.HostOuts.{its_way, IsOfOther}
 use Rattle.law_below_hubs.specs.Splits.{IsAtHub, StartHeard, StartsAtHub, LeavesKey, CompleteHeard, CompletesAtHub}
 use Rattle.law_below_hubs.proofs.AwaitedEnds.{ask_keeps_end}
 use Rattle.law_below_hubs.proofs.HostBeside.{other_key}
@@ -365,6 +365,9 @@ module _ (k : Key) (i place : ℕ) (w : Wired) (ask : Ask) (out : List ℕ) (rep
   kind_is : way_of k.kind ≡ Some Buffered
   kind_is = ap way_of bulk
 
+  its_way_is : its_way k.kind ≡ Buffered
+  its_way_is = ap its_way bulk
+
   side_with : (slot : KeySlot) → HubsHave Buffered k i place v.bus.hubs slot → StandsAs o slot → KeyStands k i place v o
   side_with slot has stands = record {
     slot = slot;
@@ -374,7 +377,10 @@ module _ (k : Key) (i place : ℕ) (w : Wired) (ask : Ask) (out : List ℕ) (rep
   }
 
   by_split : (split : Split) → ask.split ≡ split → KeyStands k i place v o
-  by_split Plain is = side_with z.slot (spares is z.slot z.has) z.stands
+  by_split Plain is =
+      side_with z.slot
+      (subst (λ (way : Way). HubsHave way k i place v.bus.hubs z.slot) its_way_is
+      (spares is z.slot (subst (λ (way : Way). HubsHave way k i place w.bus.hubs z.slot) (sym its_way_is) z.has))) z.stands
   by_split (Start hub port part) is =
       let l : LeavesKey Buffered k i place z.slot v =
       splits_by_key.starts_other Buffered k i place hub port part w ask out reply v z.slot is kind_is (other_key k ask other) z.has made in
