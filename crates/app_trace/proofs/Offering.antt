@@ -3,23 +3,28 @@ use Rattle.std.proofs.Common.{◌≡◌, Result, Ok, Err, IfOk, IfErr, ap, sym, 
 use Rattle.usb_base.specs.declared.commands.Cmd.{Cmd}
 use Rattle.usb_base.specs.declared.reports.OfferError.{OfferError}
 use Rattle.word_mem.specs.Memory.{Mem}
-use Rattle.drv_table.specs.DriverContent.{DriverContent}
-use Rattle.drv_table.specs.Offers.{offered}
-use Rattle.ehci_driver.specs.Standing.{standing}
-use Rattle.app_trace.specs.Watched.{Watched, answer_to, with_offered}
+use Rattle.drv_jobs.specs.AtWork.{DriverAtWork}
+use Rattle.drv_jobs.specs.JobOffers.{offered_any}
+use Rattle.ehci_driver.specs.JobEvents.{working}
+use Rattle.app_trace.specs.Watched.{Watched, driver_of, answer_to, with_offered}
 
-pub offer_next : {X : Type 0} (m n : Watched) (cmd : Cmd) (r : Result X OfferError) → IfOk r (λ x. offered m.driver m.memory cmd ≡ Ok (standing n.driver n.memory))
-    → IfErr r (λ why. offered m.driver m.memory cmd ≡ Err why) → IfErr r (λ why. (n.driver ≡ m.driver) × (n.memory ≡ m.memory))
-    → n ≡ record m { driver = n.driver; memory = n.memory } → n ≡ with_offered m (answer_to m cmd)
+pub offer_next : {X : Type 0} (m n : Watched) (cmd : Cmd) (r : Result X OfferError)
+    → IfOk r (λ x. offered_any (driver_of m) m.memory cmd ≡ Ok (working (driver_of n) n.memory))
+    → IfErr r (λ why. offered_any (driver_of m) m.memory cmd ≡ Err why)
+    → IfErr r (λ why. (driver_of n ≡ driver_of m) × (n.memory ≡ m.memory))
+    → n ≡ record m { driver = n.driver; job = n.job; memory = n.memory } → n ≡ with_offered m (answer_to m cmd)
 unfolding answer_to
 offer_next m n cmd (Ok x) accepted refused same is = is ∙ sym (ap (with_offered m) accepted)
 offer_next m n cmd (Err why) accepted refused same is =
-    is ∙ ap (λ (d : DriverContent). record m { driver = d; memory = n.memory }) same.0 ∙ ap (λ (x : Mem). record m { memory = x }) same.1
+    is ∙ ap (λ (d : DriverAtWork). record m { driver = d.driver; job = d.job; memory = n.memory }) same.0
+    ∙ ap (λ (x : Mem). record m { memory = x }) same.1
     ∙ sym (ap (with_offered m) refused)
 
 -- .. as it is seen before
-pub offer_seen : {X : Type 0} (m n seen : Watched) (cmd : Cmd) (r : Result X OfferError) → m ≡ seen → IfOk r (λ x. offered m.driver m.memory cmd ≡ Ok (standing n.driver n.memory))
-    → IfErr r (λ why. offered m.driver m.memory cmd ≡ Err why) → IfErr r (λ why. (n.driver ≡ m.driver) × (n.memory ≡ m.memory))
-    → n ≡ record m { driver = n.driver; memory = n.memory } → n ≡ with_offered seen (answer_to seen cmd)
+pub offer_seen : {X : Type 0} (m n seen : Watched) (cmd : Cmd) (r : Result X OfferError) → m ≡ seen
+    → IfOk r (λ x. offered_any (driver_of m) m.memory cmd ≡ Ok (working (driver_of n) n.memory))
+    → IfErr r (λ why. offered_any (driver_of m) m.memory cmd ≡ Err why)
+    → IfErr r (λ why. (driver_of n ≡ driver_of m) × (n.memory ≡ m.memory))
+    → n ≡ record m { driver = n.driver; job = n.job; memory = n.memory } → n ≡ with_offered seen (answer_to seen cmd)
 offer_seen m n seen cmd r view accepted refused same is =
     subst (λ (x : Watched). n ≡ with_offered x (answer_to x cmd)) view (offer_next m n cmd r accepted refused same is)

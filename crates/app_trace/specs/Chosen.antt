@@ -9,6 +9,8 @@ use Rattle.drv_table.specs.declared.rows.DriverRow.{DriverRow}
 use Rattle.drv_table.specs.declared.rows.DriverRow.TheVariants as rows
 use Rattle.drv_table.specs.declared.rows.Found.{Found}
 use Rattle.drv_table.specs.declared.rows.Found.TheVariants as founds
+use Rattle.drv_jobs.specs.declared.jobs.JobRow.{JobRow}
+use Rattle.drv_jobs.specs.declared.jobs.JobRow.TheVariants as works
 use Rattle.bus_packets.specs.declared.exchanges.Exchange.{Exchange}
 use Rattle.app_trace_lines.specs.declared.entries.Entry.{Entry}
 use Rattle.app_trace_lines.specs.declared.entries.Work.{Work}
@@ -59,12 +61,21 @@ is_rest (rows.ReadFrame n) = true
 is_rest (rows.Harvest e t found) = is_active found
 is_rest rows.Rest = true
 
+-- .. with its job: the reset of an endpoint is told, and the end of a clear
+abbrev pub is_still : JobRow → Bool
+is_still (works.Plain row) = is_rest row
+is_still (works.EndsRequest h t n what) = false
+is_still (works.ReadsFrame n) = true
+is_still (works.Resets name) = false
+is_still (works.Mends w) = true
+is_still (works.Reopens e) = false
+
 -- it is left out where only what moves something is wanted
 abbrev pub is_quiet : Happening → List Work → Bool
 is_quiet (Began allowed) [] = allowed
 is_quiet (Began allowed) works = false
 is_quiet (Controller step at exchange price left) works = is_idle step
-is_quiet (Driver row stored) works = is_rest row
+is_quiet (Driver row stored) works = is_still row
 is_quiet (Offered line refused) works = false
 
 abbrev pub is_exchange_of : EpName → Option Exchange → Bool

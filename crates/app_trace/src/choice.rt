@@ -3,12 +3,13 @@ ghost use Rattle.std.specs.Prelude.{◌≡◌, ◌≤◌, ◌++◌, IfOk, length
 ghost use Rattle.std.specs.List.{list_any};
 ghost use Rattle.app_trace_lines.specs.declared.entries.Happening.TheVariants.{Began};
 ghost use Rattle.bus_wire.specs.Fates.{is_same_way, is_same_name};
-ghost use Rattle.app_trace.specs.Chosen.{is_idle, is_active, is_rest, is_quiet, is_exchange_of, is_work_of, is_about, is_wanted, is_chosen, told_as, chosen_line, head_of};
+ghost use Rattle.app_trace.specs.Chosen.{is_idle, is_active, is_rest, is_still, is_quiet, is_exchange_of, is_work_of, is_about, is_wanted, is_chosen, told_as, chosen_line, head_of};
 
 use crate::captured::put_entry_packets;
 use app_trace_lines::{Entry, Happening, Work, put_entry};
 use bus_capture::file_header;
 use bus_packets::{Exchange, Passed};
+use drv_jobs::JobRow;
 use drv_table::{DriverRow, Found};
 use hc_core::HcStep;
 use std::alloc::Global;
@@ -92,6 +93,17 @@ fn is_rest(row: DriverRow) -> bool
     }
 }
 
+/// The same of an event with its job: the reset of an endpoint is told, and the end of a clear.
+fn is_still(row: JobRow) -> bool
+    ensures { result ≡ is_still row }
+{
+    match row {
+        JobRow::Plain(row) => is_rest(row),
+        JobRow::ReadsFrame(_) | JobRow::Mends(_) => true,
+        JobRow::EndsRequest(_, _, _, _) | JobRow::Resets(_) | JobRow::Reopens(_) => false,
+    }
+}
+
 fn is_quiet_begin(allowed: bool, works: &[Work]) -> bool
     ensures { result ≡ is_quiet (Began allowed) works.now }
 {
@@ -108,7 +120,7 @@ fn is_quiet(happening: &Happening, works: &[Work]) -> bool
     match happening {
         Happening::Began(allowed) => is_quiet_begin(*allowed, works),
         Happening::Controller { step, .. } => is_idle(*step),
-        Happening::Driver { row, .. } => is_rest(*row),
+        Happening::Driver { row, .. } => is_still(*row),
         Happening::Offered(_, _) => false,
     }
 }

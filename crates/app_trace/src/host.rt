@@ -2,12 +2,12 @@
 ghost use Rattle.std.specs.Prelude.{◌≡◌, ◌≤◌, IfOk, IfSome, IfNone, length, None, [], true};
 ghost use Rattle.hc_core.specs.Controller.{either_address};
 ghost use Rattle.script_fits.specs.Fits.{IsFit, IsFitCommand};
-ghost use Rattle.app_trace.specs.Watched.{told_address, is_begin, price_in, told_with, Tells, Steps, step_next, IsControlled, parts_of, driven, IsStored, IsDriven, answer_to, refusal_of, with_offered, IsCommanded, IsOpening};
-ghost use Rattle.drv_table.specs.Offers.{IsOffered};
+ghost use Rattle.app_trace.specs.Watched.{told_address, is_begin, price_in, told_with, Tells, Steps, step_next, IsControlled, parts_of, work_of, reset_in, room_in, driven, IsStored, IsDriven, answer_to, refusal_of, with_offered, IsCommanded, IsOpening};
+ghost use Rattle.drv_jobs.specs.JobOffers.{IsOfferedAny};
 ghost use Rattle.drv_table.specs.Opening.{opening};
 ghost use Rattle.mem_runs.specs.Book.{holding, Stands};
 ghost use Rattle.bus_wire.specs.Bus.{opening_wired};
-ghost use Rattle.drv_table.specs.Rows.{driver_row};
+ghost use Rattle.drv_jobs.specs.Jobs.{job_row};
 
 use crate::reserve::{can_offer, reserve_of};
 use crate::shadow::Shadow;
@@ -15,8 +15,9 @@ use app_trace_lines::{Entry, Happening, Work};
 use bandwidth::Plan;
 use bus_packets::{Exchange, Passed};
 use bus_recorder::{BelowRecorder, Recorder};
-use drv_table::{DriverRow, Endpoint};
-use ehci_driver::{Driver, Reserve};
+use drv_jobs::JobRow;
+use drv_table::{DriverRow, DriverStep, Endpoint};
+use ehci_driver::{Driver, DriverAtWork, Reserve};
 use hc_core::{Controller, HcStep};
 use op_registers::Registers;
 use script_types::Script;
@@ -31,7 +32,7 @@ pub struct Host {
     registers: Registers,
     mem: WordMem,
     controller: Controller,
-    driver: Driver,
+    driver: DriverAtWork,
     wire: Recorder,
     hubs: BelowRecorder,
     shadow: Shadow,
@@ -46,9 +47,9 @@ impl Model for Host {
 
     ghost Value = { Watched };
 
-    ghost view = { λ h. record { registers = h.registers; memory = h.mem; control = h.controller; driver = h.driver; recorded = h.wire } };
+    ghost view = { λ h. record { registers = h.registers; memory = h.mem; control = h.controller; driver = h.driver.driver; job = h.driver.job; recorded = h.wire } };
 
-    ghost invariant = { λ h. Stands (holding h.driver.book h.mem) };
+    ghost invariant = { λ h. Stands (holding h.driver.driver.book h.mem) };
 }
 
 /// The first of both, else the other.
@@ -81,6 +82,16 @@ fn price_in(exchange: &Option<Exchange>, time: u64, left: u64) -> u64
     match exchange {
         Some(_) => time.saturating_sub(left),
         None => 0,
+    }
+}
+
+/// The endpoint that an event of the driver resets, if it is one that does.
+fn reset_in(step: DriverStep) -> Option<EpName>
+    ensures { result ≡ reset_in step }
+{
+    match step {
+        DriverStep::Reset(name) => Some(name),
+        _ => None,
     }
 }
 
@@ -161,7 +172,7 @@ impl Host {
             registers,
             mem,
             controller: Controller::new(),
-            driver,
+            driver: DriverAtWork::new(driver),
             wire,
             hubs,
             shadow,
@@ -186,19 +197,19 @@ impl Host {
         self.microframe
     }
 
-    /// Whether the driver is at work on a command.
+    /// Whether the driver is at work on a command, or at a job.
     pub fn is_busy(&self) -> bool {
         self.driver.busy()
     }
 
     /// The endpoints that were opened.
     pub fn endpoints(&self) -> &[Endpoint] {
-        self.driver.endpoints()
+        self.driver.driver().endpoints()
     }
 
     /// The plan of the periodic ones.
     pub fn plan(&self) -> &Plan {
-        self.driver.plan()
+        self.driver.driver().plan()
     }
 
     /// The entry of what happened.
@@ -254,6 +265,7 @@ impl Host {
         ensures kind { result ≡ step_next self.old }
         ensures row { Steps self.old self.new }
         ensures driver { self.new.driver ≡ self.old.driver }
+        ensures job { self.new.job ≡ self.old.job }
     {
         self.wire.forget();
         self.controller
@@ -329,37 +341,42 @@ impl Host {
     }
 
     /// Which row the next event of the driver is.
-    fn next_row(&self) -> DriverRow
-        ensures { result ≡ driver_row (parts_of self.now) }
+    fn next_row(&self) -> JobRow
+        ensures { result ≡ job_row (work_of self.now) }
     {
         self.driver.row(&self.registers, &self.mem)
     }
 
     /// Keeps the words as they are before a descriptor is unlinked, so that its store is found.
-    fn keep_words(&mut self, row: DriverRow)
+    fn keep_words(&mut self, row: JobRow)
         ensures { self.new ≡ self.old }
     {
-        if let DriverRow::Unlink(_) = row {
+        if let JobRow::Plain(DriverRow::Unlink(_)) = row {
             self.shadow.copy(&self.mem);
         }
     }
 
-    /// The next event of the driver.
+    /// The next event of the driver, with the reset of an endpoint where it is one.
     #[tactic(auto, unfolding(crate::specs::Watched::driven))]
     fn drive(&mut self)
         ensures { self.new ≡ driven self.old }
     {
-        let _step = self.driver.step(&mut self.registers, &mut self.mem);
+        let step = self.driver.step(&mut self.registers, &mut self.mem);
+        if let Some(name) = reset_in(step) {
+            self.wire.reset(&name);
+            self.hubs.reset(&name);
+        }
     }
 
     /// The word that an event of the driver stored, by its row.
-    fn stored(&self, row: DriverRow) -> Option<(u32, u32)>
+    fn stored(&self, row: JobRow) -> Option<(u32, u32)>
         ensures { IsStored row result self.now }
     {
         match row {
-            DriverRow::Store(_, at, value) => Some((at, value)),
-            DriverRow::Mend(mend) => Some((mend.at, mend.value)),
-            DriverRow::Unlink(_) => self.shadow.changed(&self.mem),
+            JobRow::Plain(DriverRow::Store(_, at, value)) => Some((at, value)),
+            JobRow::Plain(DriverRow::Mend(mend)) => Some((mend.at, mend.value)),
+            JobRow::Plain(DriverRow::Unlink(_)) => self.shadow.changed(&self.mem),
+            JobRow::Mends(mend) => Some((mend.at, mend.value)),
             _ => None,
         }
     }
@@ -403,7 +420,7 @@ impl Host {
     /// Offers a command: why it was refused, if it was.
     #[tactic(auto, unfolding(crate::specs::Watched::answer_to))]
     fn command(&mut self, cmd: &Cmd) -> Option<OfferError>
-        requires { IsOffered self.old.driver.room cmd.now }
+        requires { IsOfferedAny (room_in self.old) cmd.now }
         ensures refused { result ≡ refusal_of (answer_to self.old cmd.now) }
         ensures next { self.new ≡ with_offered self.old (answer_to self.old cmd.now) }
     {

@@ -1,7 +1,8 @@
 //! The room for the commands of a script.
 ghost use Rattle.std.specs.Prelude.{◌≡◌, ◌≤◌, IsTrue};
 ghost use Rattle.script_fits.specs.Fits.{IsFitCommand};
-ghost use Rattle.drv_table.specs.Offers.{IsOffered, HasRoom};
+ghost use Rattle.drv_table.specs.Offers.{HasRoom};
+ghost use Rattle.drv_jobs.specs.JobOffers.{IsOfferedAny};
 ghost use Rattle.drv_table.specs.Words.{request_length};
 
 use ehci_driver::Reserve;
@@ -65,8 +66,14 @@ fn room_of(cmd: &Cmd) -> Reserve {
             report_bytes: 0,
             rules: FIRST_RULES,
         },
-        Cmd::Clear(_)
-        | Cmd::Reset(_)
+        Cmd::Clear(_) => Reserve {
+            endpoints: 0,
+            transfers: 1,
+            reports: 2,
+            report_bytes: 0,
+            rules: FIRST_RULES,
+        },
+        Cmd::Reset(_)
         | Cmd::Give(_)
         | Cmd::DiskRead { .. }
         | Cmd::DiskWrite { .. }
@@ -131,7 +138,7 @@ fn has_room(room: &Reserve, length: usize) -> bool
 #[tactic(auto, using(script_fits::proofs::Opened::can_be_opened))]
 pub fn can_offer(room: &Reserve, cmd: &Cmd) -> bool
     requires { IsFitCommand cmd.now }
-    ensures { IsTrue result → IsOffered room.now cmd.now }
+    ensures { IsTrue result → IsOfferedAny room.now cmd.now }
 {
     match cmd {
         Cmd::OpenEp(_) => 1 <= room.endpoints,
@@ -143,8 +150,8 @@ pub fn can_offer(room: &Reserve, cmd: &Cmd) -> bool
                 && *count as u32 <= room.reports
                 && 24_576 * *count as u32 <= room.report_bytes
         }
+        Cmd::Clear(_) => 1 <= room.transfers && 2 <= room.reports,
         Cmd::Cancel(_)
-        | Cmd::Clear(_)
         | Cmd::Reset(_)
         | Cmd::Give(_)
         | Cmd::DiskRead { .. }

@@ -9,11 +9,13 @@ use Rattle.usb_base.specs.declared.packets.Pid.{Pid}
 use Rattle.usb_base.specs.declared.packets.Pid.TheVariants as pids
 use Rattle.usb_base.specs.declared.packets.Split.{Split}
 use Rattle.usb_base.specs.declared.packets.Split.TheVariants as splits
+use Rattle.usb_base.specs.declared.endpoints.EpName.{EpName}
 use Rattle.usb_base.specs.declared.reports.OfferError.{OfferError}
 use Rattle.report_text.specs.ReportText.{ep_word, why_words}
 use Rattle.hc_core.specs.declared.controller.HcStep.{HcStep}
-use Rattle.drv_table.specs.declared.rows.DriverRow.{DriverRow}
-use Rattle.drv_table.specs.Rows.{step_of}
+use Rattle.drv_jobs.specs.declared.jobs.JobRow.{JobRow}
+use Rattle.drv_jobs.specs.declared.jobs.JobRow.TheVariants as rows
+use Rattle.drv_jobs.specs.Jobs.{step_of_job}
 use Rattle.bus_packets.specs.declared.exchanges.Answer.{Answer}
 use Rattle.bus_packets.specs.declared.exchanges.Answer.TheVariants as answers
 use Rattle.bus_packets.specs.declared.exchanges.Exchange.{Exchange}
@@ -100,8 +102,16 @@ unfoldable pub stored_text : Option (ℕ × ℕ) → List ℕ
 stored_text None = []
 stored_text (Some s) = word_stored_text s.0 s.1
 
-unfoldable pub driver_line : DriverRow → Option (ℕ × ℕ) → List ℕ
-driver_line row stored = codes "driver " ++ driver_word (step_of row) ++ stored_text stored
+unfoldable pub name_text : EpName → List ℕ
+name_text name = codes " " ++ ep_word name
+
+-- the endpoint that is reset, if one is
+unfoldable pub reset_text : JobRow → List ℕ
+reset_text (rows.Resets name) = name_text name
+reset_text _ = []
+
+unfoldable pub driver_line : JobRow → Option (ℕ × ℕ) → List ℕ
+driver_line row stored = codes "driver " ++ driver_word (step_of_job row) ++ reset_text row ++ stored_text stored
 
 unfoldable pub refusal_text : Option OfferError → List ℕ
 refusal_text None = codes " accepted"

@@ -1,5 +1,5 @@
 use bus_packets::Exchange;
-use drv_table::DriverRow;
+use drv_jobs::JobRow;
 use hc_core::HcStep;
 use usb_base::{EpName, OfferError};
 
@@ -37,7 +37,7 @@ pub enum Happening {
     /// An event of the driver.
     Driver {
         /// Its row.
-        row: DriverRow,
+        row: JobRow,
         /// The byte address and the word of a store.
         stored: Option<(u32, u32)>,
     },

@@ -1,7 +1,7 @@
 //! The line of an event.
 ghost use Rattle.std.specs.Prelude.{◌≡◌, ◌++◌, IfOk, codes};
 ghost use Rattle.std.specs.List.{flat_map};
-ghost use Rattle.app_trace_lines.specs.Lines.{port_text, part_text, start_text, complete_text, token_text, packet_text, data_text, answer_text, reply_text, acknowledgement_text, heard_text, packets_text, exchange_text, made_text, address_text, at_text, time_text, word_stored_text, stored_text, driver_line, refusal_text, offered_text, began_text, subject_text, controller_text, happening_text, moment_text, unheard_text, end_text, span_text, work_text, passed_text, below_text, entry_line};
+ghost use Rattle.app_trace_lines.specs.Lines.{port_text, part_text, start_text, complete_text, token_text, packet_text, data_text, answer_text, reply_text, acknowledgement_text, heard_text, packets_text, exchange_text, made_text, address_text, at_text, time_text, word_stored_text, stored_text, name_text, reset_text, driver_line, refusal_text, offered_text, began_text, subject_text, controller_text, happening_text, moment_text, unheard_text, end_text, span_text, work_text, passed_text, below_text, entry_line};
 
 use crate::entries::{Entry, Happening, Work};
 use crate::pieces::{
@@ -9,9 +9,9 @@ use crate::pieces::{
     step_text,
 };
 use bus_packets::{Answer, Exchange, Passed, has_answer, is_acknowledged, is_heard, sends_data};
-use drv_table::DriverRow;
+use drv_jobs::JobRow;
 use hc_core::HcStep;
-use usb_base::{Ask, DataPart, Memory, OfferError, Pid, Split};
+use usb_base::{Ask, DataPart, EpName, Memory, OfferError, Pid, Split};
 
 #[tactic(auto, unfolding(crate::specs::Lines::port_text))]
 fn put_port(text: &mut Vec<u8>, hub: u8, port: u8) -> Result<(), Memory>
@@ -223,12 +223,33 @@ fn put_stored(text: &mut Vec<u8>, stored: Option<(u32, u32)>) -> Result<(), Memo
 
 /// Appends an event of the driver.
 #[tactic(auto, unfolding(crate::specs::Lines::driver_line))]
-fn put_driver(text: &mut Vec<u8>, row: DriverRow, stored: Option<(u32, u32)>) -> Result<(), Memory>
+fn put_driver(text: &mut Vec<u8>, row: JobRow, stored: Option<(u32, u32)>) -> Result<(), Memory>
     ensures { IfOk result (λ _. text.new.items ≡ text.old.items ++ driver_line row stored) }
 {
     put(text, "driver ")?;
     put(text, driver_text(row.step()))?;
+    put_reset(text, row)?;
     put_stored(text, stored)
+}
+
+/// Appends the endpoint that is reset, if one is.
+#[tactic(auto, unfolding(crate::specs::Lines::reset_text))]
+fn put_reset(text: &mut Vec<u8>, row: JobRow) -> Result<(), Memory>
+    ensures { IfOk result (λ _. text.new.items ≡ text.old.items ++ reset_text row) }
+{
+    match row {
+        JobRow::Resets(name) => put_name(text, &name),
+        _ => Ok(()),
+    }
+}
+
+/// Appends a space and an endpoint.
+#[tactic(auto, unfolding(crate::specs::Lines::name_text))]
+fn put_name(text: &mut Vec<u8>, name: &EpName) -> Result<(), Memory>
+    ensures { IfOk result (λ _. text.new.items ≡ text.old.items ++ name_text name.now) }
+{
+    put(text, " ")?;
+    put_endpoint(text, name)
 }
 
 #[tactic(auto, unfolding(crate::specs::Lines::offered_text))]

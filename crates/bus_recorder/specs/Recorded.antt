@@ -13,6 +13,7 @@ use Rattle.script_types.specs.declared.scripts.FateText.{FateText}
 use Rattle.bus_wire.specs.declared.told.Told.{Told}
 use Rattle.bus_wire.specs.Bus.{Wired, begin_after, is_allowed, reply_of, transact_after}
 use Rattle.bus_wire.specs.Fates.{is_against}
+use Rattle.bus_wire.specs.Resets.{bus_reset}
 use Rattle.bus_wire.specs.Told.{told_of, answer_told}
 use Rattle.bus_wire.specs.WhoHeard.{packets_before, later}
 use Rattle.bus_packets.specs.declared.exchanges.Answer.{Answer}
@@ -94,3 +95,7 @@ TransactsIn w ask out reply v = (reply ≡ reply_of w.wired.fixed w.wired.bus as
 -- with no transaction recorded
 abbrev pub forgotten : Recorded → Recorded
 forgotten w = record w { exchange = None }
+
+-- once an endpoint is reset
+abbrev pub reset_recorded : EpName → Recorded → Recorded
+reset_recorded name w = record w { wired = record w.wired { bus = bus_reset name w.wired.bus } }

@@ -3,6 +3,7 @@ ghost use Rattle.std.specs.Prelude.{◌≡◌, ◌≤◌, length, map, slice_get
 ghost use Rattle.bus_wire.specs.Asking.{unheard_later, losses_of, row_for};
 ghost use Rattle.bus_wire.specs.Below.{enabled_ports, hears_at, asked_below_at, asked_below, floor_answer, devices_after, below_reply_at, below_after_at, below_reply, below_after};
 ghost use Rattle.bus_wire.specs.Bus.{begun_at};
+ghost use Rattle.endpoint_script.specs.Resets.{device_reset};
 ghost use Rattle.bus_wire.specs.Fates.{is_unheard};
 ghost use Rattle.bus_wire.specs.Seats.{token_kind, place_for};
 ghost use Rattle.bus_wire.specs.WhoHeard.{answer_sent, packets_sent};
@@ -16,7 +17,7 @@ use endpoint_script::Device;
 use hub_class::Hub;
 use script_types::FateText;
 use std::marker::Model;
-use usb_base::{Ask, Packet, Pid, Reply, Wire};
+use usb_base::{Ask, EpName, Packet, Pid, Reply, Wire};
 
 /// The devices of a bus as they stand below the hub at work: as a `Wire` that of its translators.
 #[derive(Drop)]
@@ -107,6 +108,14 @@ fn begin_devices(devices: &mut [Device], frindex: u16)
     }
 }
 
+fn reset_devices(devices: &mut [Device], name: &EpName)
+    ensures { devices.new ≡ map (device_reset name.now) devices.old }
+{
+    for device in devices.iter_mut() {
+        device.reset(name);
+    }
+}
+
 impl BelowBus {
     /// These devices with these endpoints, below no hub yet.
     pub fn new(
@@ -149,6 +158,17 @@ impl BelowBus {
         } }
     {
         begin_devices(self.devices.as_mut_slice(), frindex);
+    }
+
+    /// The endpoint with this name is reset (USB 2.0, 9.4.5).
+    pub fn reset(&mut self, name: &EpName)
+        ensures { self.new ≡ record self.old {
+          below = record self.old.below {
+            floor = record self.old.below.floor { devices = map (device_reset name.now) self.old.below.floor.devices };
+          };
+        } }
+    {
+        reset_devices(self.devices.as_mut_slice(), name);
     }
 
     /// From now on no transaction is recorded, until the next is made.

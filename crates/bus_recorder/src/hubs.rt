@@ -9,7 +9,7 @@ use hub_class::Hub;
 use script_types::{DeviceText, FateText, HubText, Script};
 use std::alloc::Global;
 use std::marker::Model;
-use usb_base::Memory;
+use usb_base::{EpName, Memory};
 
 /// A hub, and whether it has a translator for each port.
 #[derive(Drop)]
@@ -156,6 +156,14 @@ impl BelowRecorder {
             }
             Answerer::Device(_) | Answerer::Nobody => {}
         }
+    }
+
+    /// The endpoint with this name is reset (USB 2.0, 9.4.5).
+    pub fn reset(&mut self, name: &EpName) {
+        for hub in self.hubs.iter_mut() {
+            hub.hub.reset(name);
+        }
+        self.below.reset(name);
     }
 
     /// The microframe with this frame index begins: the translators work for the one that ended, and their transactions are recorded.

@@ -3,7 +3,7 @@ ghost use Rattle.std.specs.List.{list_all};
 ghost use Rattle.endpoint_script.specs.Device.{is_scripted};
 ghost use Rattle.hub_class.specs.HubContent.{has_few_ports};
 ghost use Rattle.bus_wire.specs.Bus.{opening_wired};
-ghost use Rattle.bus_recorder.specs.Recorded.{answer_in, bytes_in, exchange_in, BeginsIn, TransactsIn, forgotten};
+ghost use Rattle.bus_recorder.specs.Recorded.{answer_in, bytes_in, exchange_in, BeginsIn, TransactsIn, forgotten, reset_recorded};
 
 use crate::fates::{fates_of, packets_sent};
 use bus_packets::{Answer, Exchange};
@@ -11,7 +11,7 @@ use bus_wire::{Seat, Told, UsbBus};
 use script_types::{FateText, Script};
 use std::alloc::Global;
 use std::marker::Model;
-use usb_base::{Ask, Memory, Packet, Reply, Wire};
+use usb_base::{Ask, EpName, Memory, Packet, Reply, Wire};
 
 /// A bus with a record of what went over it last.
 #[derive(Drop)]
@@ -143,6 +143,13 @@ impl Recorder {
         ensures { result.now ≡ self.now.wired.fixed.seats }
     {
         self.bus.seats()
+    }
+
+    /// The endpoint with this name is reset, as its halt is cleared (USB 2.0, 9.4.5). No packet is sent.
+    pub fn reset(&mut self, name: &EpName)
+        ensures { self.new ≡ reset_recorded name.now self.old }
+    {
+        self.bus.reset(name);
     }
 
     /// The number of the next packet below a translator of the endpoint at a place, from 0; None exactly where there is no such place.
