@@ -6,7 +6,6 @@ use Rattle.std.specs.Prelude.{ℕ, ◌/◌, ◌%◌, Bool, true, false, List, []
 use Rattle.std.specs.List.{flat_map, join_with_byte}
 use Rattle.usb_base.specs.declared.packets.DataPart.{DataPart}
 use Rattle.usb_base.specs.declared.packets.Pid.{Pid}
-use Rattle.usb_base.specs.declared.packets.Pid.TheVariants as pids
 use Rattle.usb_base.specs.declared.packets.Split.{Split}
 use Rattle.usb_base.specs.declared.packets.Split.TheVariants as splits
 use Rattle.usb_base.specs.declared.endpoints.EpName.{EpName}

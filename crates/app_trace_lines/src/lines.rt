@@ -223,8 +223,8 @@ fn put_stored(text: &mut Vec<u8>, stored: Option<(u32, u32)>) -> Result<(), Memo
 
 /// Appends an event of the driver.
 #[tactic(auto, unfolding(crate::specs::Lines::driver_line))]
-fn put_driver(text: &mut Vec<u8>, row: JobRow, stored: Option<(u32, u32)>) -> Result<(), Memory>
-    ensures { IfOk result (λ _. text.new.items ≡ text.old.items ++ driver_line row stored) }
+fn put_driver(text: &mut Vec<u8>, row: &JobRow, stored: Option<(u32, u32)>) -> Result<(), Memory>
+    ensures { IfOk result (λ _. text.new.items ≡ text.old.items ++ driver_line row.now stored) }
 {
     put(text, "driver ")?;
     put(text, driver_text(row.step()))?;
@@ -234,11 +234,11 @@ fn put_driver(text: &mut Vec<u8>, row: JobRow, stored: Option<(u32, u32)>) -> Re
 
 /// Appends the endpoint that is reset, if one is.
 #[tactic(auto, unfolding(crate::specs::Lines::reset_text))]
-fn put_reset(text: &mut Vec<u8>, row: JobRow) -> Result<(), Memory>
-    ensures { IfOk result (λ _. text.new.items ≡ text.old.items ++ reset_text row) }
+fn put_reset(text: &mut Vec<u8>, row: &JobRow) -> Result<(), Memory>
+    ensures { IfOk result (λ _. text.new.items ≡ text.old.items ++ reset_text row.now) }
 {
     match row {
-        JobRow::Resets(name) => put_name(text, &name),
+        JobRow::Resets(name) => put_name(text, name),
         _ => Ok(()),
     }
 }
@@ -331,7 +331,7 @@ fn put_happening(text: &mut Vec<u8>, happening: &Happening) -> Result<(), Memory
             price,
             left,
         } => put_controller(text, *step, *at, exchange, *price, *left),
-        Happening::Driver { row, stored } => put_driver(text, *row, *stored),
+        Happening::Driver { row, stored } => put_driver(text, row, *stored),
         Happening::Offered(line, refused) => put_offered(text, *line, *refused),
     }
 }
