@@ -47,7 +47,14 @@ impl Model for Host {
 
     ghost Value = { Watched };
 
-    ghost view = { λ h. record { registers = h.registers; memory = h.mem; control = h.controller; driver = h.driver.driver; job = h.driver.job; recorded = h.wire } };
+    ghost view = { λ h. record {
+      registers = h.registers;
+      memory = h.mem;
+      control = h.controller;
+      driver = h.driver.driver;
+      job = h.driver.job;
+      recorded = h.wire;
+    } };
 
     ghost invariant = { λ h. Stands (holding h.driver.driver.book h.mem) };
 }
@@ -348,7 +355,7 @@ impl Host {
     }
 
     /// Keeps the words as they are before a descriptor is unlinked, so that its store is found.
-    fn keep_words(&mut self, row: JobRow)
+    fn keep_words(&mut self, row: &JobRow)
         ensures { self.new ≡ self.old }
     {
         if let JobRow::Plain(DriverRow::Unlink(_)) = row {
@@ -369,11 +376,11 @@ impl Host {
     }
 
     /// The word that an event of the driver stored, by its row.
-    fn stored(&self, row: JobRow) -> Option<(u32, u32)>
-        ensures { IsStored row result self.now }
+    fn stored(&self, row: &JobRow) -> Option<(u32, u32)>
+        ensures { IsStored row.now result self.now }
     {
         match row {
-            JobRow::Plain(DriverRow::Store(_, at, value)) => Some((at, value)),
+            JobRow::Plain(DriverRow::Store(_, at, value)) => Some((*at, *value)),
             JobRow::Plain(DriverRow::Mend(mend)) => Some((mend.at, mend.value)),
             JobRow::Plain(DriverRow::Unlink(_)) => self.shadow.changed(&self.mem),
             JobRow::Mends(mend) => Some((mend.at, mend.value)),
@@ -395,9 +402,9 @@ impl Host {
     {
         self.clear();
         let row = self.next_row();
-        self.keep_words(row);
+        self.keep_words(&row);
         self.drive();
-        let stored = self.stored(row);
+        let stored = self.stored(&row);
         self.entry(Happening::Driver { row, stored })
     }
 

@@ -24,10 +24,10 @@ pub fn lines()
     ensures stored { entry_line (record { microframe = 0; frame_index = 0; happening = happenings.Driver (works.Plain (rows.Store 130 0x1040 0x80008d80)) (Some (0x1040, 0x80008d80)) }) [] []
         ≡ codes "0 0.0 driver store 00001040 becomes 80008d80" ++ 10 ∷ [] }
     ensures reset { entry_line (record {
-          microframe = 5;
-          frame_index = 4;
-          happening = happenings.Driver (works.Resets (record { addr = 3; num = 1; way = In })) None;
-        }) [] []
+      microframe = 5;
+      frame_index = 4;
+      happening = happenings.Driver (works.Resets (record { addr = 3; num = 1; way = In })) None;
+    }) [] []
         ≡ codes "5 0.4 driver reset 3.1.in" ++ 10 ∷ [] }
     ensures fetched { entry_line (record { microframe = 1; frame_index = 1; happening = happenings.Controller steps.Fetch (Some 0x1000) None 0 5 }) [] []
         ≡ codes "1 0.1 controller fetch 00001000" ++ 10 ∷ [] }

@@ -2,7 +2,9 @@
 //!
 //! A line of `data/cases` has a name and the words. The script stands in `NAME.in` and what must be written in `NAME.out`: lines or a
 //! capture, which a script computed from the tables of the standards. One capture was corrected after this program's trace was seen: a
-//! complete-split that is made again at once (EHCI 1.0, 4.12.2.4). So the rows agree with that script, and are no independent check of each line.
+//! complete-split that is made again at once (EHCI 1.0, 4.12.2.4). Of the clear the lines between its command and the next, but for one
+//! value, were worked out before this program's trace was seen, the others after it. So the rows agree with those scripts, and are no
+//! independent check of each line.
 #![tactic(auto)]
 
 use app_ends::Status;
