@@ -288,7 +288,8 @@ module _ (code : ℕ) (near : ℕ → Bool) (n : ℕ) (x : Endpoint) (i place : 
       where
         by : (code ≡ 1) ⊎ (code ≡ 0) → RestsToStart (settlement_as Kinds.Bulk k.queue m.out false m.reply).host
         by (inl inward) =
-            own_in_rests Kinds.Bulk false q m.out m.reply refl (record { below = host_is.below; inward = pid_is ∙ inward; goes_on = working.goes_on }) works
+            own_in_rests Kinds.Bulk false q m.out m.reply refl
+            (record { below = host_is.below; inward = pid_is ∙ inward; goes_on = working.goes_on }) works
         by (inr outward) =
             own_out_rests Kinds.Bulk false q m.out m.reply refl (record { below = host_is.below; out = pid_is ∙ outward; works = works })
             (sent_all m.sent.all)
