@@ -220,6 +220,7 @@ after_placed w n (says.Stuff name p) h =
     (record { ports = h.ports; devices = eps_placed w.hubs name (stuffed p) w.devices (λ e. refl) h.devices })) (λ _. h)
 after_placed w n (says.Open name) h = opened_placed w n (known w name) h
 after_placed w n (says.Cancel name) h = where_placed w name _ h (same_placed w _ refl refl h)
+after_placed w n (says.Clear name) h = where_placed w name _ h (same_placed w _ refl refl h)
 after_placed w n (says.Get l) h = where_placed w l.name _ h (same_placed w _ refl refl h)
 after_placed w n (says.Put l) h =
     where_placed w l.name _ h
