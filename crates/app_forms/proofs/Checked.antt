@@ -2,7 +2,7 @@
 use Rattle.std.proofs.Common.{◌≡◌, ℕ, List, true, false, Some, subst, sym, ap}
 use Rattle.std.specs.Prelude.{is_none}
 use Rattle.image_codec.specs.Image.{image_fault}
-use Rattle.image_codec.specs.Text.{refusal_line}
+use Rattle.image_show.specs.Text.{refusal_line}
 use Rattle.image_codec.specs.declared.image.Refusal.{Refusal}
 use Rattle.script_text.specs.Faults.{is_image}
 use Rattle.app_forms.specs.Output.{Checks, checked_as, image_line, is_sound_as}

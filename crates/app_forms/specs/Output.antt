@@ -18,8 +18,8 @@ use Rattle.bus_world.specs.ClosingAtWork.{text_at_work}
 use Rattle.script_load.specs.Load.{load_text}
 use Rattle.report_load.specs.Summary.{summary_of, summary_line}
 use Rattle.image_codec.specs.Image.{image_bytes, image_fault, image_of}
-use Rattle.image_codec.specs.Shown.{shown}
-use Rattle.image_codec.specs.Text.{refusal_line}
+use Rattle.image_show.specs.Shown.{shown}
+use Rattle.image_show.specs.Text.{refusal_line}
 use Rattle.image_codec.specs.declared.image.Refusal.{Refusal}
 use Rattle.app_forms.specs.Form.{AreWordsOf}
 use Rattle.app_forms.specs.declared.form.Form.{Form}

@@ -7,7 +7,8 @@ ghost use Rattle.bus_world.specs.RunsAtWork.{IsRunOfAtWork};
 use crate::form::Form;
 use crate::refusing::refuse_image;
 use app_ends::Status;
-use image_codec::{Image, ImageError, Refusal, ShowError, decode, show};
+use image_codec::{Image, ImageError, Refusal, decode};
+use image_show::{ShowError, show};
 use std::alloc::Global;
 use usb_base::Sink;
 

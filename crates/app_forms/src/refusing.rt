@@ -7,7 +7,8 @@ ghost use Rattle.bus_world.specs.RunsAtWork.{IsRunOfAtWork};
 
 use crate::form::Form;
 use app_ends::Status;
-use image_codec::{Refusal, print_refusal};
+use image_codec::Refusal;
+use image_show::print_refusal;
 use script_text::{TextWhy, print_fault};
 use usb_base::Sink;
 

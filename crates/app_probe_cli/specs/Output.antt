@@ -9,7 +9,7 @@ use Rattle.usb_base.specs.Outside.{AppendsPrefix}
 use Rattle.script_forms.specs.Syntax.{number_of}
 use Rattle.image_codec.specs.declared.image.Refusal.{Refusal}
 use Rattle.image_codec.specs.Image.{image_fault, image_of}
-use Rattle.image_codec.specs.Text.{refusal_line}
+use Rattle.image_show.specs.Text.{refusal_line}
 use Rattle.app_probe.specs.declared.probing.Probed.{Probed}
 use Rattle.app_probe.specs.Probe.{IsProbe, EndsSo}
 use Rattle.app_ends.specs.declared.status.Status.{Status}

@@ -1,8 +1,3 @@
 pub mod Image
 pub mod Printing
-pub mod Text
-pub mod Linked
-pub mod Shown
-pub mod Marks
-pub mod Show
 pub mod Samples

@@ -1,11 +1,6 @@
 //! What follows of the definitions alone.
-ghost use Rattle.std.specs.Prelude.{◌≡◌, ℕ, ◌%◌, ◌++◌, List, [], ◌∷◌, Option, None, Some, is_some, true, length, codes};
-ghost use Rattle.link_words.specs.declared.kinds.Link.{Link};
-ghost use Rattle.link_words.specs.declared.kinds.QtdLink.{QtdLink};
-ghost use Rattle.link_words.specs.Links.{IsAligned as IsLinkAligned, IsQtdAligned};
-ghost use Rattle.image_codec.specs.Linked.{count, ending_at};
+ghost use Rattle.std.specs.Prelude.{◌≡◌, ◌++◌, [], ◌∷◌, None, Some, codes};
 ghost use Rattle.image_codec.specs.Samples.{header};
-ghost use Rattle.image_codec.specs.Shown.{chain, queue};
 ghost use Rattle.image_codec.specs.Image.{field_bytes, field_of, fields_of, header_bytes, image_bytes, image_fault, image_of, HasFields, IsAligned};
 
 use crate::image::{Image, ImageWhy};
@@ -13,14 +8,6 @@ use crate::image::{Image, ImageWhy};
 /// The bytes of an image have no fault and spell that image: no two images have the same bytes.
 pub fn reads_back()
     ensures { (i : Image) → IsAligned i → HasFields i → (image_fault (image_bytes i) ≡ None) × (image_of (image_bytes i) ≡ i) }
-{}
-
-/// Every list of an image ends at one of its endings: it has no more structures than memory has units of 32 bytes, so the
-/// text goes on up to the first link that ends a list, and no bound cuts it.
-pub fn lists_end()
-    ensures queues { (words : List ℕ) → (first : QtdLink) → IsQtdAligned first → is_some (ending_at (queue words) first (count (queue words) first)) ≡ true }
-    ensures chains { (words seen : List ℕ) → (home : Option ℕ) → (first : Link) → length words % 8 ≡ 0 → IsLinkAligned first →
-        is_some (ending_at (chain words home seen) first (count (chain words home seen) first)) ≡ true }
 {}
 
 /// Worked values: a field of 32 bits has its lowest byte first.

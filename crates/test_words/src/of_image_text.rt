@@ -2,7 +2,8 @@ ghost use Rattle.image_codec.specs.Image.{IsAligned};
 
 use crate::of_image_codec::{changed, opening};
 use byteorder::{ByteOrder, LittleEndian};
-use image_codec::{Image, ImageWhy, Refusal, ShowError, decode, print_refusal, show};
+use image_codec::{Image, ImageWhy, Refusal, decode};
+use image_show::{ShowError, print_refusal, show};
 use std::alloc::{AllocError, Global};
 use std::process::Abort;
 use std::test::Fail;

@@ -1,5 +1,5 @@
 use Rattle.app_ends.specs.declared.status.Status.TheVariants as Statuses
-use Rattle.image_codec.specs.Text.{refusal_line}
+use Rattle.image_show.specs.Text.{refusal_line}
 use Rattle.app_forms.proofs.Checked.{refused_check}
 use Rattle.app_forms.proofs.refusing.refuse_image.Goals as goal
 

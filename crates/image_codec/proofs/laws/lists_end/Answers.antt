@@ -1,5 +1,0 @@
-use Rattle.image_codec.proofs.Ends.{chain_ends, queue_ends}
-use Rattle.image_codec.proofs.laws.lists_end.Goals as goal
-
-pub returns : goal.returns
-returns c = record { queues = queue_ends; chains = λ words seen home first u a. chain_ends words seen home first u a }

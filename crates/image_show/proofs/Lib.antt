@@ -1,0 +1,5 @@
+pub mod Decimals
+pub mod Listing
+pub mod Marking
+pub mod FrameTexts
+pub mod Ends

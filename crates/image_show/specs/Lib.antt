@@ -1,0 +1,6 @@
+pub mod Text
+pub mod Linked
+pub mod Shown
+pub mod Marks
+pub mod Show
+pub mod Samples
