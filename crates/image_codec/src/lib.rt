@@ -11,5 +11,5 @@ mod writing;
 
 pub use image::{Image, ImageError, ImageWhy, Refusal};
 pub use page::Page;
-pub use reading::decode;
+pub use reading::{decode, field, words_of};
 pub use writing::encode;

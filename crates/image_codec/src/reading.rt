@@ -44,14 +44,16 @@ fn image_at(alloc: Global, bytes: &[u8]) -> Result<Image, Memory>
     })
 }
 
-fn field(bytes: &[u8], at: usize) -> u32
+/// The field of 32 bits at a byte offset, its lowest byte first.
+pub fn field(bytes: &[u8], at: usize) -> u32
     requires { at + 4 ≤ length bytes.now }
     ensures { result ≡ field_at bytes.now at }
 {
     LittleEndian::read_u32(&bytes[at..])
 }
 
-fn words_of(alloc: Global, bytes: &[u8]) -> Result<Vec<u32>, Memory>
+/// The words that bytes are, four each; what is left over is none.
+pub fn words_of(alloc: Global, bytes: &[u8]) -> Result<Vec<u32>, Memory>
     ensures { IfOk result (λ words. words.items ≡ fields_of bytes.now) }
 {
     let mut words = Vec::with_capacity(alloc, bytes.len() / 4)?;
