@@ -167,6 +167,7 @@ some_short w a (k ∷ ks) e =
     ]
 
 reply_at : (way : Way) (a : Answer) (x : Option EpDesc) → Holds IsFitDesc x → option_map_or (λ d. can_answer way a d.kind d.max) x (some_answer way a) ≡ true → AreShort a
+reply_at way answer.Epoch None h e = λ m h. refl
 reply_at way a None h e = some_short way a (kinds_of way) e
 reply_at way a (Some d) h e = answers_short way a d.kind d.max h.max e
 

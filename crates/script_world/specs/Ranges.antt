@@ -97,8 +97,9 @@ kinds_of way.Ctl = Control ∷ []
 kinds_of way.In = Bulk ∷ Interrupt ∷ Iso ∷ []
 kinds_of way.Out = Bulk ∷ Interrupt ∷ Iso ∷ []
 
--- some endpoint of this way could answer so
+-- some endpoint of this way could answer so; only of one that is declared it is known whether it has epochs
 abbrev pub some_answer : Way → Answer → Bool
+some_answer w answer.Epoch = true
 some_answer w a = list_any (λ kind. can_answer w a kind 1024) (kinds_of w)
 
 -- a hub answers for itself; an endpoint that isn't declared is in range where some endpoint is

@@ -1,8 +1,9 @@
 //! The ranges of what lines say, beyond those of their numbers alone.
 ghost use Rattle.std.specs.Prelude.{◌≡◌, ℕ, ◌<◌, ◌==◌, not, length, Option};
+ghost use Rattle.std.specs.List.{list_any};
 ghost use Rattle.script_forms.specs.declared.statements.Answer.{Answer as Answered};
 ghost use Rattle.script_world.specs.Ranges.{within, is_size, is_period, is_rate, is_paced, is_placed, suits, is_endpoint, ep_ranged};
-ghost use Rattle.script_world.specs.Ranges.{is_stream, is_iso, can_answer, some_answer, reply_ranged, by_ranged, out_len, control_ranged};
+ghost use Rattle.script_world.specs.Ranges.{is_stream, is_iso, can_answer, kinds_of, some_answer, reply_ranged, by_ranged, out_len, control_ranged};
 ghost use Rattle.script_world.specs.Ranges.{is_slots, iso_ranged, stuff_ranged, in_range};
 
 use crate::draft::Draft;
@@ -143,9 +144,9 @@ fn can_answer(way: Way, answer: &Answer, kind: EpKind, max: u32) -> bool
     }
 }
 
-/// Whether some endpoint of this way can answer so.
-fn some_answer(way: Way, answer: &Answer) -> bool
-    ensures { result ≡ some_answer way answer.now }
+/// Whether some kind of endpoint of this way can answer so.
+fn some_kind_answers(way: Way, answer: &Answer) -> bool
+    ensures { result ≡ list_any (λ kind. can_answer way answer.now kind 1024) (kinds_of way) }
 {
     match way {
         Way::Ctl => can_answer(way, answer, EpKind::Control, 1_024),
@@ -154,6 +155,16 @@ fn some_answer(way: Way, answer: &Answer) -> bool
                 || can_answer(way, answer, EpKind::Interrupt, 1_024)
                 || can_answer(way, answer, EpKind::Iso, 1_024)
         }
+    }
+}
+
+/// Whether some endpoint of this way could answer so.
+fn some_answer(way: Way, answer: &Answer) -> bool
+    ensures { result ≡ some_answer way answer.now }
+{
+    match answer {
+        Answer::Epoch => true,
+        _ => some_kind_answers(way, answer),
     }
 }
 

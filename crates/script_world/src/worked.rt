@@ -69,6 +69,7 @@ pub fn epochs()
     ensures hub { cause_of behind_its_own (epoch_line 9 0 Way.Ctl) ≡ Some TextWhy.Range }
     ensures iso { cause_of behind_its_own (epoch_line 3 1 Way.In) ≡ Some TextWhy.Range }
     ensures unknown { cause_of a_bulk (epoch_line 3 2 Way.In) ≡ Some TextWhy.Unknown }
+    ensures unknown_control { cause_of a_bulk (epoch_line 3 0 Way.Ctl) ≡ Some TextWhy.Unknown }
 {}
 
 /// The clear of an endpoint is a command of its line; the endpoint has to be declared.
