@@ -17,3 +17,4 @@ pub mod Isochronous
 pub mod Released
 pub mod Cleared
 pub mod JobRows
+pub mod WrittenWithJob

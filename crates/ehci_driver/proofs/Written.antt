@@ -50,22 +50,22 @@ lent_runs h (b ∷ bs) = lent_runs (lend_slot h b (slot_at h b)) bs ∙ lent_slo
 not_equal : (i j : ℕ) → (i == j) ≡ false → i ≢ j
 not_equal i j differs same = eqb-false i j differs same
 
-written : (b : Bool) (m : Mem) (to v at : ℕ) → (at / 4 == to / 4) ≡ false → word_at (cond b (with_word m to v) m) at ≡ word_at m at
+pub written : (b : Bool) (m : Mem) (to v at : ℕ) → (at / 4 == to / 4) ≡ false → word_at (cond b (with_word m to v) m) at ≡ word_at m at
 written true m to v at differs = get_or-set_other m.words (to / 4) (at / 4) v 0 (not_equal (at / 4) (to / 4) differs)
 written false m to v at differs = refl
 
 -- ---- giving back
 
-record Freed (h g : Holding) : Type 0 where
+pub record Freed (h g : Holding) : Type 0 where
   pub words : (at : ℕ) → state_at g.memory (at / 32) ≢ Some Free → word_at g.memory at ≡ word_at h.memory at
   pub free : (b : ℕ) → state_at h.memory b ≡ Some Free → state_at g.memory b ≡ Some Free
   pub stands : Stands g
   pub shape : IsShaped g.memory
 
-freed_nothing : (h : Holding) → Stands h → IsShaped h.memory → Freed h h
+pub freed_nothing : (h : Holding) → Stands h → IsShaped h.memory → Freed h h
 freed_nothing h stands shape = record { words = λ at busy. refl; free = λ b free. free; stands = stands; shape = shape }
 
-freed_both : (h g k : Holding) → Freed h g → Freed g k → Freed h k
+pub freed_both : (h g k : Holding) → Freed h g → Freed g k → Freed h k
 freed_both h g k one two = record {
   words = λ at busy. two.words at busy ∙ one.words at (λ free. busy (two.free (at / 32) free));
   free = λ b free. two.free b (one.free b free);
@@ -114,7 +114,7 @@ freed_runs h (b ∷ bs) stands shape =
     let one = freed_run h b stands shape in
     freed_both h (release_run h b) (free_runs (release_run h b) bs) one (freed_runs (release_run h b) bs one.stands one.shape)
 
-freed_qtds : (notes : List QtdNote) (h : Holding) (b n : ℕ) → Stands h → IsShaped h.memory → Freed h (free_qtds notes h b n)
+pub freed_qtds : (notes : List QtdNote) (h : Holding) (b n : ℕ) → Stands h → IsShaped h.memory → Freed h (free_qtds notes h b n)
 unfolding free_qtds
 freed_qtds notes h b zero stands shape = freed_nothing h stands shape
 freed_qtds notes h b (suc n) stands shape =

@@ -1,6 +1,7 @@
 -- Which words an event writes.
 --     stores_at d row at         the row stores the word of the byte address `at`, from the content d on
 --     OnlyStores d row m n       from m to n each word stays that the row doesn't store, but for those of blocks that are Free then
+--     stores_with_job, OnlyStoresWithJob   the same of the rows of a driver with its job
 use Rattle.std.specs.Prelude.{◌≡◌, ◌≢◌, ℕ, ◌*◌, ◌/◌, ◌==◌, Bool, false, List, take, drop, slice_get, Option, Some, None}
 use Rattle.std.specs.List.{list_any}
 use Rattle.word_mem.specs.Memory.{Mem, word_at, state_at}
@@ -14,6 +15,8 @@ use Rattle.drv_table.specs.declared.rows.DriverRow.{DriverRow}
 use Rattle.drv_table.specs.declared.rows.DriverRow.TheVariants as rows
 use Rattle.drv_table.specs.DriverContent.{DriverContent}
 use Rattle.drv_table.specs.Removals.{descriptor_leaving}
+use Rattle.drv_jobs.specs.declared.jobs.JobRow.{JobRow}
+use Rattle.drv_jobs.specs.declared.jobs.JobRow.TheVariants as works
 
 abbrev pub is_word : ℕ → ℕ → Bool
 is_word to at = at / 4 == to / 4
@@ -44,3 +47,12 @@ stores_at d _ at = false
 
 abbrev pub OnlyStores : DriverContent → DriverRow → Mem → Mem → Type 0
 OnlyStores d row m n = (at : ℕ) → stores_at d row at ≡ false → state_at n (at / 32) ≢ Some Free → word_at n at ≡ word_at m at
+
+abbrev pub stores_with_job : DriverContent → JobRow → ℕ → Bool
+stores_with_job d (works.Plain row) at = stores_at d row at
+stores_with_job d (works.Mends w) at = is_word w.at at
+stores_with_job d _ at = false
+
+abbrev pub OnlyStoresWithJob : DriverContent → JobRow → Mem → Mem → Type 0
+OnlyStoresWithJob d row m n =
+    (at : ℕ) → stores_with_job d row at ≡ false → state_at n (at / 32) ≢ Some Free → word_at n at ≡ word_at m at

@@ -9,6 +9,7 @@ ghost use Rattle.drv_jobs.specs.Jobs.{job_row, row_of, stage_row, after_job_row,
 ghost use Rattle.ehci_driver.specs.JobEvents.{after_work, CanWork, IsAsking};
 ghost use Rattle.ehci_driver.specs.Standing.{with_refusal};
 ghost use Rattle.ehci_driver.specs.Turns.{parts};
+ghost use Rattle.ehci_driver.specs.Written.{OnlyStoresWithJob};
 
 use crate::at_work::DriverAtWork;
 use crate::driver::Driver;
@@ -80,7 +81,9 @@ impl DriverAtWork {
         ensures work { at_work self.new regs.new mem.new ≡ after_work (at_work self.old regs.old mem.old) }
         ensures stands { Stands (holding self.new.driver.book mem.new) }
         ensures room { free_room self.new ≡ free_room self.old }
+        ensures words { OnlyStoresWithJob self.old.driver (job_row (at_work self.old regs.old mem.old)) mem.old mem.new }
     {
+        let _words = mem.words();
         let row = self.row(regs, mem);
         self.make(regs, mem, &row);
         row.step()
