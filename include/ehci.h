@@ -57,7 +57,7 @@ struct ehci_answer {
 void ehci_reset(struct ehci *);
 
 /* What a driver reads at an offset in bytes from the first operational register, 00h USBCMD to 44h PORTSC; all ones where there is none.
- * The capability registers are the emulator's: one port, 64-bit addressing 0, programmable frame list 0, no park mode. */
+ * The capability registers are the emulator's: one port, 64-bit addressing 0, programmable frame list 1, no park mode. */
 uint32_t ehci_read(const struct ehci *, uint32_t offset);
 
 /* A driver's write of a word there: each bit takes it as its row of 2.3 says; nothing changes where there is no register. HCReset resets

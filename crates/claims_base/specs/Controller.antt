@@ -14,6 +14,7 @@ pub record Base : Type 0 where
   pub async_list_address : ℕ
   pub periodic_enable : Bool
   pub periodic_list_base : ℕ
+  pub list_size : ℕ
 
 abbrev pub base_of : RegisterFile → Base
 base_of r = record {
@@ -22,10 +23,11 @@ base_of r = record {
   async_list_address = r.async_list_address;
   periodic_enable = r.periodic_enable;
   periodic_list_base = r.periodic_list_base;
+  list_size = r.list_size;
 }
 
 abbrev pub opening_base : Base
-opening_base = record { run = true; async_enable = true; async_list_address = 4096; periodic_enable = true; periodic_list_base = 0 }
+opening_base = record { run = true; async_enable = true; async_list_address = 4096; periodic_enable = true; periodic_list_base = 0; list_size = 0 }
 
 -- r and m are the registers and memory before, s and n those after
 pub record GoesOn (r : RegisterFile) (m : Mem) (s : RegisterFile) (n : Mem) : Type 0 where

@@ -1,12 +1,12 @@
 -- One event of the controller (EHCI 1.0, 4.1, 4.4 and 4.6 to 4.12). A microframe has a Begin, then its periodic part, then its
 -- asynchronous part, then its End. Which row an event is, `microframe_row` tells.
-use Rattle.std.specs.Prelude.{◌≡◌, ℕ, ◌+◌, ◌*◌, ◌/◌, ◌%◌, Bool, true, false, ◌&&◌, not, Option, None, Some, List, if◌then◌else◌}
+use Rattle.std.specs.Prelude.{◌≡◌, ℕ, ◌+◌, ◌*◌, ◌/◌, ◌%◌, ◌^◌, Bool, true, false, ◌&&◌, not, Option, None, Some, List, if◌then◌else◌}
 use Rattle.usb_base.specs.declared.packets.Ask.{Ask}
 use Rattle.usb_base.specs.declared.packets.Reply.{Reply}
-use Rattle.usb_base.specs.Limits.{frame_list_length, microframe_time}
+use Rattle.usb_base.specs.Limits.{microframe_time}
 use Rattle.link_words.specs.Links.{link_read}
 use Rattle.word_mem.specs.Memory.{Mem, reaches, refused, word_at}
-use Rattle.op_registers.specs.RegisterFile.{RegisterFile}
+use Rattle.op_registers.specs.RegisterFile.{RegisterFile, levels_of}
 use Rattle.op_registers.specs.Events.{after_begin, after_fault, next_index}
 use Rattle.async_walk.specs.declared.state.WalkStep.{WalkStep}
 use Rattle.async_walk.specs.declared.state.WalkStep.TheVariants as walks
@@ -87,7 +87,7 @@ time_of false = 0
 
 -- the address of the element of the frame list that a frame index names: bits 12:3 (4.4)
 abbrev pub element_address : RegisterFile → ℕ
-element_address r = r.periodic_list_base + 4 * (r.frame_index / 8 % frame_list_length)
+element_address r = r.periodic_list_base + 4 * (r.frame_index / 8 % 2 ^ levels_of r.list_size)
 
 -- the chain of the frame begins with the link of its element
 abbrev pub begun_control : ℕ → ℕ → ℕ → Control → Control

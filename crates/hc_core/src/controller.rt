@@ -9,7 +9,7 @@ use link_words::read;
 use op_registers::Registers;
 use periodic_walk::{PeriodicState, step as walk_frame};
 use std::marker::Model;
-use usb_base::limits::{FRAME_LIST_LENGTH, MICROFRAME_TIME};
+use usb_base::limits::MICROFRAME_TIME;
 use usb_base::{Ps, Wire};
 
 /// One event of the controller.
@@ -170,7 +170,7 @@ impl Controller {
         } else {
             0
         };
-        let at = regs.periodic_list_base() + 4 * (index as u32 / 8 % FRAME_LIST_LENGTH);
+        let at = regs.periodic_list_base() + 4 * (index as u32 / 8 % regs.list_length() as u32);
         match mem.hc_read(at) {
             Some(word) => {
                 self.part = MicroframePart::Periodic;

@@ -19,6 +19,7 @@ use Rattle.hc_microframe.proofs.FrameShapes.{frame_shape}
 to_shape : (r : RegisterFile) → IsHeld r → IsHeld (shape r)
 to_shape r h = record {
   ranges = record {
+    size_coded = h.ranges.size_coded;
     enables_named = h.ranges.enables_named;
     index_wraps = h.ranges.index_wraps;
     base_aligned = h.ranges.base_aligned;
@@ -33,6 +34,7 @@ to_shape r h = record {
 from_shape : (r : RegisterFile) → IsHeld (shape r) → IsHeld r
 from_shape r h = record {
   ranges = record {
+    size_coded = h.ranges.size_coded;
     enables_named = h.ranges.enables_named;
     index_wraps = h.ranges.index_wraps;
     base_aligned = h.ranges.base_aligned;
@@ -50,6 +52,7 @@ of_shape r q e h = from_shape q (subst IsHeld (sym e) (to_shape r h))
 begun_held : (r : RegisterFile) → IsHeld r → IsHeld (after_begin r)
 begun_held r h = record {
   ranges = record {
+    size_coded = h.ranges.size_coded;
     enables_named = h.ranges.enables_named;
     index_wraps = omega arith;
     base_aligned = h.ranges.base_aligned;
@@ -91,7 +94,7 @@ either_held false x y hx hy = hy
 
 reset_held : IsHeld reset_file
 reset_held = record {
-  ranges = record { enables_named = omega arith; index_wraps = omega arith; base_aligned = refl; address_aligned = refl };
+  ranges = record { size_coded = omega arith; enables_named = omega arith; index_wraps = omega arith; base_aligned = refl; address_aligned = refl };
   threshold = omega arith;
   base_fits = omega arith;
   address_fits = omega arith;
@@ -101,7 +104,7 @@ reset_held = record {
 pub told_held : (s : State) → s.list < 2 ^ 32 → s.ring < 2 ^ 32 → IsHeld (file_of s)
 told_held s list ring =
     either_held (asks_reset (rows Command) s.command) reset_file _ reset_held (record {
-      ranges = record { enables_named = omega arith; index_wraps = omega arith; base_aligned = omega arith; address_aligned = omega arith };
+      ranges = record { size_coded = omega arith; enables_named = omega arith; index_wraps = omega arith; base_aligned = omega arith; address_aligned = omega arith };
       threshold = omega arith;
       base_fits = omega (arith, list);
       address_fits = omega (arith, ring);

@@ -19,24 +19,27 @@ or_false : (b : Bool) → (b || false) ≡ b
 or_false true = refl
 or_false false = refl
 
-run_bit : (r : RegisterFile) → bits_of (word_of r Command) 0 0 ≡ one_if r.run
-run_bit r = omega (arith, one_if_small r.run, one_if_small r.periodic_enable, one_if_small r.async_enable, one_if_small r.doorbell)
+run_bit : (r : RegisterFile) → r.list_size < 2 ^ 2 → bits_of (word_of r Command) 0 0 ≡ one_if r.run
+run_bit r few = omega (arith, few, one_if_small r.run, one_if_small r.periodic_enable, one_if_small r.async_enable, one_if_small r.doorbell)
 
-reset_bit : (r : RegisterFile) → bits_of (word_of r Command) 1 1 ≡ 0
-reset_bit r = omega (arith, one_if_small r.run, one_if_small r.periodic_enable, one_if_small r.async_enable, one_if_small r.doorbell)
+reset_bit : (r : RegisterFile) → r.list_size < 2 ^ 2 → bits_of (word_of r Command) 1 1 ≡ 0
+reset_bit r few = omega (arith, few, one_if_small r.run, one_if_small r.periodic_enable, one_if_small r.async_enable, one_if_small r.doorbell)
 
-periodic_bit : (r : RegisterFile) → bits_of (word_of r Command) 4 4 ≡ one_if r.periodic_enable
-periodic_bit r = omega (arith, one_if_small r.run, one_if_small r.periodic_enable, one_if_small r.async_enable, one_if_small r.doorbell)
+periodic_bit : (r : RegisterFile) → r.list_size < 2 ^ 2 → bits_of (word_of r Command) 4 4 ≡ one_if r.periodic_enable
+periodic_bit r few = omega (arith, few, one_if_small r.run, one_if_small r.periodic_enable, one_if_small r.async_enable, one_if_small r.doorbell)
 
-async_bit : (r : RegisterFile) → bits_of (word_of r Command) 5 5 ≡ one_if r.async_enable
-async_bit r = omega (arith, one_if_small r.run, one_if_small r.periodic_enable, one_if_small r.async_enable, one_if_small r.doorbell)
+async_bit : (r : RegisterFile) → r.list_size < 2 ^ 2 → bits_of (word_of r Command) 5 5 ≡ one_if r.async_enable
+async_bit r few = omega (arith, few, one_if_small r.run, one_if_small r.periodic_enable, one_if_small r.async_enable, one_if_small r.doorbell)
 
-doorbell_bit : (r : RegisterFile) → bits_of (word_of r Command) 6 6 ≡ one_if r.doorbell
-doorbell_bit r = omega (arith, one_if_small r.run, one_if_small r.periodic_enable, one_if_small r.async_enable, one_if_small r.doorbell)
+doorbell_bit : (r : RegisterFile) → r.list_size < 2 ^ 2 → bits_of (word_of r Command) 6 6 ≡ one_if r.doorbell
+doorbell_bit r few = omega (arith, few, one_if_small r.run, one_if_small r.periodic_enable, one_if_small r.async_enable, one_if_small r.doorbell)
 
-threshold_bits : (r : RegisterFile) → r.threshold < 2 ^ 8 → bits_of (word_of r Command) 23 16 ≡ r.threshold
-threshold_bits r small =
-    omega (arith, small, one_if_small r.run, one_if_small r.periodic_enable, one_if_small r.async_enable, one_if_small r.doorbell)
+threshold_bits : (r : RegisterFile) → r.list_size < 2 ^ 2 → r.threshold < 2 ^ 8 → bits_of (word_of r Command) 23 16 ≡ r.threshold
+threshold_bits r few small =
+    omega (arith, few, small, one_if_small r.run, one_if_small r.periodic_enable, one_if_small r.async_enable, one_if_small r.doorbell)
+
+size_bits : (r : RegisterFile) → r.list_size < 2 ^ 2 → bits_of (word_of r Command) 3 2 ≡ r.list_size
+size_bits r few = omega (arith, few, one_if_small r.run, one_if_small r.periodic_enable, one_if_small r.async_enable, one_if_small r.doorbell)
 
 enable_bits : (r : RegisterFile) → IsHeld r → bits_of (word_of r InterruptEnable) 5 0 ≡ r.interrupt_enable
 enable_bits r held = omega (arith, held.ranges.enables_named)
@@ -54,18 +57,19 @@ configured_bit : (b : Bool) → (bits_of (one_if b) 0 0 == 1) ≡ b
 configured_bit true = refl
 configured_bit false = refl
 
-resets : (r : RegisterFile) → (bits_of (word_of r Command) 1 1 == 1) ≡ false
-resets r = ap (λ (n : ℕ). n == 1) (reset_bit r)
+resets : (r : RegisterFile) → r.list_size < 2 ^ 2 → (bits_of (word_of r Command) 1 1 == 1) ≡ false
+resets r few = ap (λ (n : ℕ). n == 1) (reset_bit r few)
 
 all_but_ports : (r : RegisterFile) (cursor : ℕ) → IsHeld r → file_of (shown r cursor) ≡ record r { ports = None }
 all_but_ports r cursor held =
-    rw (resets r)
+    rw (resets r held.ranges.size_coded)
     (simp (
-      run_bit r,
-      periodic_bit r,
-      async_bit r,
-      doorbell_bit r,
-      threshold_bits r held.threshold,
+      run_bit r held.ranges.size_coded,
+      size_bits r held.ranges.size_coded,
+      periodic_bit r held.ranges.size_coded,
+      async_bit r held.ranges.size_coded,
+      doorbell_bit r held.ranges.size_coded,
+      threshold_bits r held.ranges.size_coded held.threshold,
       enable_bits r held,
       frame_bits r held,
       list_bits r held,

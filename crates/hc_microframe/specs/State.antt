@@ -42,7 +42,7 @@ is_up s = not (bit_and (bit_and s.status s.interrupt_enable) 0x3f == 0)
 
 -- of each number that a register holds no bit is lost
 pub record IsHeld (r : RegisterFile) : Type 0 where
-  pub ranges : IsInRange r.interrupt_enable r.frame_index r.periodic_list_base r.async_list_address
+  pub ranges : IsInRange r.list_size r.interrupt_enable r.frame_index r.periodic_list_base r.async_list_address
   pub threshold : r.threshold < 2 ^ 8
   pub base_fits : r.periodic_list_base < 2 ^ 32
   pub address_fits : r.async_list_address < 2 ^ 32

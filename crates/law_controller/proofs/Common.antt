@@ -1,11 +1,11 @@
 -- Lemmas that several files need.
 use Rattle.std.proofs.Common.{◌≡◌, ℕ, List, ◌<◌, ◌∷◌, inl, subst, sym, inr, [], ap, ◌∙◌, refl, Bool, true, false, Option, Some, ◌≢◌, ◌++◌, ◌%◌, None, ◌+◌, ◌*◌, slice_index, length, arith, get_or, ⊎_elim}
-use Rattle.std.specs.Prelude.{◌⊎◌}
+use Rattle.std.specs.Prelude.{◌⊎◌, ◌^◌, ◌==◌, if◌then◌else◌}
 use Rattle.usb_base.specs.declared.packets.Ask.{Ask}
 use Rattle.usb_base.specs.declared.packets.Reply.{Reply}
 use Rattle.word_mem.specs.Memory.{Mem, word_at}
 use Rattle.word_mem.proofs.Words.{get_or-words_in}
-use Rattle.op_registers.specs.RegisterFile.{RegisterFile}
+use Rattle.op_registers.specs.RegisterFile.{RegisterFile, levels_of}
 use Rattle.claims_base.specs.Controller.{Base}
 use Rattle.link_words.specs.Links.{IsAligned}
 use Rattle.itd_sitd.specs.declared.sitd.Sitd.{Sitd}
@@ -178,3 +178,12 @@ new_own part a new unnamed own b c t u pages k bs one other same there =
     (λ (second : (c ≢ a) × (part c ≡ Some (Element u))). own b c t u pages k bs first.1 second.1 same buffer)
     (found_with part a c (Element new) (Element u) other))
     (found_with part a b (Element new) (Element t) one)
+
+low_by : (half quarter : Bool) (n : ℕ) → n % 2 ^ (if half then 9 else if quarter then 8 else 10) < 1024
+low_by true quarter n = omega arith
+low_by false true n = omega arith
+low_by false false n = omega arith
+
+-- an element of a frame list of any length is one of its page's
+pub element_low : (size n : ℕ) → n % 2 ^ levels_of size < 1024
+element_low size n = low_by (size == 1) (size == 2) n

@@ -153,8 +153,8 @@ pub rung_base : (r : RegisterFile) → base_of (after_write r 0x00 doorbell_comm
   async_enable = true;
   async_list_address = r.async_list_address;
   periodic_enable = true;
-  periodic_list_base =
-      r.periodic_list_base;
+  periodic_list_base = r.periodic_list_base;
+  list_size = if r.run then r.list_size else 0;
 }
 rung_base r = refl
 
@@ -165,30 +165,10 @@ rung_same base r on same =
     let async : r.async_enable ≡ true = ap (λ (b : Base). b.async_enable) same ∙ on.async_enable in
     let periodic : r.periodic_enable ≡ true = ap (λ (b : Base). b.periodic_enable) same ∙ on.periodic_enable in
     rung_base r
-    ∙ sym (ap (λ (x : Bool). record {
-      run = x;
-      async_enable = r.async_enable;
-      async_list_address = r.async_list_address;
-      periodic_enable =
-          r.periodic_enable;
-      periodic_list_base = r.periodic_list_base;
-    }) run
-    ∙ ap (λ (x : Bool). record {
-      run = true;
-      async_enable = x;
-      async_list_address = r.async_list_address;
-      periodic_enable =
-          r.periodic_enable;
-      periodic_list_base = r.periodic_list_base;
-    }) async
-    ∙ ap (λ (x : Bool). record {
-      run = true;
-      async_enable = true;
-      async_list_address = r.async_list_address;
-      periodic_enable =
-          x;
-      periodic_list_base = r.periodic_list_base;
-    }) periodic)
+    ∙ ap (λ (x : Bool). record (base_of r) { run = true; async_enable = true; periodic_enable = true; list_size = if x then r.list_size else 0 }) run
+    ∙ sym (ap (λ (x : Bool). record (base_of r) { run = x }) run
+    ∙ ap (λ (x : Bool). record (base_of r) { run = true; async_enable = x }) async
+    ∙ ap (λ (x : Bool). record (base_of r) { run = true; async_enable = true; periodic_enable = x }) periodic)
 
 pub sound_at : (part : Structures) (t : Qtd) (k : ℕ) → IsSoundElement part t → IsSoundElement part (partly t k)
 sound_at part t zero s = record { next = tt; alternate = tt; work = λ on. absurd (true≢false (sym on)) }

@@ -66,7 +66,7 @@ abbrev pub member : ℕ → Bool
 member n = n == 0 || n == 64
 
 abbrev pub base : Base
-base = record { run = true; async_enable = true; async_list_address = 0; periodic_enable = false; periodic_list_base = 0 }
+base = record { run = true; async_enable = true; async_list_address = 0; periodic_enable = false; periodic_list_base = 0; list_size = 0 }
 
 abbrev pub registers : RegisterFile
 registers = record reset_file { run = true; async_enable = true }

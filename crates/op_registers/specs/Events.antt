@@ -2,7 +2,7 @@
 use Rattle.std.specs.Prelude.{Bool, true, false, ℕ, ◌+◌, ◌/◌, ◌%◌, ◌^◌, ◌==◌, ◌||◌, not}
 use Rattle.std.specs.Int.RustNames.{bit_and}
 use Rattle.root_ports.specs.declared.port_event.PortEvent.TheVariants as Events
-use Rattle.op_registers.specs.RegisterFile.{RegisterFile}
+use Rattle.op_registers.specs.RegisterFile.{RegisterFile, levels_of}
 use Rattle.op_registers.specs.Table.{after_port_event}
 use Rattle.op_registers.specs.declared.status.Status.{Status}
 
@@ -27,11 +27,11 @@ after_raise r set = record r {
 abbrev pub next_index : ℕ → ℕ
 next_index index = (index + 1) % 2 ^ 14
 
--- The next microframe. The frame list of 1,024 elements rolls over where bit 13 of FRINDEX changes (EHCI 1.0 section 2.3.2).
+-- The next microframe. The frame list rolls over where bit 13 of FRINDEX changes, or of one of 512 elements bit 12, or of one of 256 bit 11 (EHCI 1.0 section 2.3.2).
 abbrev pub after_begin : RegisterFile → RegisterFile
 after_begin r = record r {
   frame_index = next_index r.frame_index;
-  rollover = not (next_index r.frame_index / 2 ^ 13 == r.frame_index / 2 ^ 13) || r.rollover;
+  rollover = not (next_index r.frame_index / 2 ^ (3 + levels_of r.list_size) == r.frame_index / 2 ^ (3 + levels_of r.list_size)) || r.rollover;
 }
 
 -- The head of the ring was read with the doorbell set (EHCI 1.0 section 4.8.2).

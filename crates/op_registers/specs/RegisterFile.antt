@@ -1,5 +1,5 @@
 -- What the operational registers hold (EHCI 1.0 section 2.3).
-use Rattle.std.specs.Prelude.{Bool, false, ℕ, ◌≡◌, ◌%◌, ◌^◌, ◌<◌, List, map, Option, None, option_map}
+use Rattle.std.specs.Prelude.{Bool, false, ℕ, ◌≡◌, ◌%◌, ◌^◌, ◌==◌, ◌<◌, if◌then◌else◌, List, map, Option, None, option_map}
 use Rattle.root_ports.specs.declared.port.Port.{Port}
 use Rattle.root_ports.specs.Ports.{reopened}
 
@@ -11,6 +11,7 @@ pub record RegisterFile : Type 0 where
   pub periodic_enable : Bool
   pub async_enable : Bool
   pub doorbell : Bool
+  pub list_size : ℕ
   pub threshold : ℕ
   pub interrupt : Bool
   pub error : Bool
@@ -33,6 +34,7 @@ reset_file = record {
   periodic_enable = false;
   async_enable = false;
   doorbell = false;
+  list_size = 0;
   threshold = 8;
   interrupt = false;
   error = false;
@@ -53,8 +55,13 @@ reset_file = record {
 abbrev pub reset_of : RegisterFile → RegisterFile
 reset_of r = record reset_file { ports = option_map (map reopened) r.ports }
 
--- the ranges of the numbers: six enables, a microframe of 1,024 frames, the address of a frame list of 4,096 bytes and that of a queue head
-pub record IsInRange (enables index base address : ℕ) : Type 0 where
+-- The elements of the frame list are 2 ^ `levels_of` of Frame List Size: 1,024, or 512 where it is 1, or 256 where it is 2 (EHCI 1.0 section 2.3.1). A reserved 3 is as 0 here.
+abbrev pub levels_of : ℕ → ℕ
+levels_of size = if size == 1 then 9 else if size == 2 then 8 else 10
+
+-- the ranges of the numbers: two bits of Frame List Size, six enables, a microframe of 1,024 frames, the address of a frame list of 4,096 bytes and that of a queue head
+pub record IsInRange (size enables index base address : ℕ) : Type 0 where
+  pub size_coded : size < 2 ^ 2
   pub enables_named : enables < 2 ^ 6
   pub index_wraps : index < 2 ^ 14
   pub base_aligned : base % 2 ^ 12 ≡ 0

@@ -72,7 +72,7 @@ abbrev pub rows : Register → List RegisterRow
 rows Command =
     row 0 0 Run 0 Stored
     ∷ row 1 1 HCReset 0 Resets
-    ∷ row 3 2 ListSize 0 Fixed
+    ∷ row 3 2 ListSize 0 StoredHalted
     ∷ row 4 4 PeriodicEnable 0 Stored
     ∷ row 5 5 AsyncEnable 0 Stored
     ∷ row 6 6 Doorbell 0 SetByOne
@@ -120,7 +120,7 @@ port_value port (Some ports) = port_status port ports
 abbrev pub value_of : RegisterFile → Field → ℕ
 value_of r Run = one_if r.run
 value_of r HCReset = 0
-value_of r ListSize = 0
+value_of r ListSize = r.list_size
 value_of r PeriodicEnable = one_if r.periodic_enable
 value_of r AsyncEnable = one_if r.async_enable
 value_of r Doorbell = one_if r.doorbell
@@ -172,6 +172,7 @@ with_value r Run n = record r { run = n == 1 }
 with_value r PeriodicEnable n = record r { periodic_enable = n == 1 }
 with_value r AsyncEnable n = record r { async_enable = n == 1 }
 with_value r Doorbell n = record r { doorbell = n == 1 }
+with_value r ListSize n = record r { list_size = n }
 with_value r Threshold n = record r { threshold = n }
 with_value r Interrupt n = record r { interrupt = n == 1 }
 with_value r Error n = record r { error = n == 1 }

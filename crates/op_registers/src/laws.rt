@@ -34,7 +34,7 @@ pub fn opening_rows()
 
 /// Words with every bit set: what is kept are the named bits that the driver writes.
 pub fn full_words()
-    ensures command { word_at (after_write reset_file 0x00 0xfffffffd) 0x00 ≡ Some 0x00ff0071 }
+    ensures command { word_at (after_write reset_file 0x00 0xfffffffd) 0x00 ≡ Some 0x00ff007d }
     ensures interrupt_enable { word_at (after_write reset_file 0x08 0xffffffff) 0x08 ≡ Some 0x3f }
     ensures frame_index { word_at (after_write reset_file 0x0c 0xffffffff) 0x0c ≡ Some 0x3fff }
     ensures list_base { word_at (after_write reset_file 0x14 0xffffffff) 0x14 ≡ Some 0xfffff000 }
@@ -64,6 +64,17 @@ pub fn frame_index_rows()
         (word_at begun 0x0c ≡ Some 0x2000) × (begun.rollover ≡ true) }
     ensures whole { let begun = after_begin (after_write reset_file 0x0c 0x3fff) in
         (word_at begun 0x0c ≡ Some 0) × (begun.rollover ≡ true) }
+{}
+
+/// Frame List Size: written while halted and not while running; a list of 512 elements rolls over each 4,096 microframes, one of 256 each 2,048.
+pub fn list_size_rows()
+    ensures halted { word_at (after_write reset_file 0x00 0x00080038) 0x00 ≡ Some 0x00080038 }
+    ensures running { let opened = after_write reset_file 0x00 0x00080035 in word_at (after_write opened 0x00 0x00080039) 0x00 ≡ Some 0x00080035 }
+    ensures rung { let opened = after_write reset_file 0x00 0x00080039 in word_at (after_write opened 0x00 0x00080079) 0x00 ≡ Some 0x00080079 }
+    ensures half { (after_begin (after_writes reset_file ((0x0c, 0x0fff) ∷ (0x00, 0x00080035) ∷ []))).rollover ≡ true }
+    ensures half_later { (after_begin (after_writes reset_file ((0x0c, 0x07ff) ∷ (0x00, 0x00080035) ∷ []))).rollover ≡ false }
+    ensures quarter { (after_begin (after_writes reset_file ((0x0c, 0x07ff) ∷ (0x00, 0x00080039) ∷ []))).rollover ≡ true }
+    ensures whole { (after_begin (after_writes reset_file ((0x0c, 0x0fff) ∷ (0x00, 0x00080031) ∷ []))).rollover ≡ false }
 {}
 
 /// The doorbell: set by a 1, left by a 0, cleared by `advance`, and by a reset with all the rest.

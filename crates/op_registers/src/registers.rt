@@ -1,7 +1,7 @@
-ghost use Rattle.std.specs.Prelude.{◌≡◌, ◌<◌, ◌%◌, ◌^◌, ◌&&◌, true, false, Some, is_some, option_copied, option_map, unwrap_or, take};
+ghost use Rattle.std.specs.Prelude.{◌≡◌, ◌+◌, ◌<◌, ◌≤◌, ◌/◌, ◌%◌, ◌^◌, ◌==◌, ◌&&◌, not, if◌then◌else◌, true, false, Some, is_some, option_copied, option_map, unwrap_or, take};
 ghost use Rattle.root_ports.specs.Ports.{ports_after, has_new_change};
-ghost use Rattle.op_registers.specs.RegisterFile.{reset_file, reset_of};
-ghost use Rattle.op_registers.specs.Table.{port_count, register_at, rows, port_value, after_port_event, word_of_rows, word_of, word_at, after_write_to, after_write};
+ghost use Rattle.op_registers.specs.RegisterFile.{reset_file, reset_of, levels_of};
+ghost use Rattle.op_registers.specs.Table.{Write, port_count, register_at, rows, one_if, bits_of, taken, port_value, after_port_event, word_of_rows, word_of, word_at, after_write_to, after_write};
 ghost use Rattle.op_registers.specs.Events.{after_raise, after_begin, after_advance, after_reclamation, after_fault, after_plug, after_unplug};
 
 use crate::command::Command;
@@ -18,6 +18,7 @@ const PORT_STATUS: u32 = 0x0000_1005;
 #[derive(Debug, Drop)]
 pub struct Registers {
     command: Command,
+    list_size: u8,
     threshold: u8,
     status: Status,
     interrupt_enable: Status,
@@ -36,13 +37,14 @@ impl Model for Registers {
 
     ghost use Rattle.op_registers.specs.Events.{has};
 
-    ghost invariant = { λ a. IsInRange a.interrupt_enable.0 a.frame_index a.periodic_list_base a.async_list_address };
+    ghost invariant = { λ a. IsInRange a.list_size a.interrupt_enable.0 a.frame_index a.periodic_list_base a.async_list_address };
 
     ghost view = { λ a. record {
       run = has a.command.0 0x01;
       periodic_enable = has a.command.0 0x10;
       async_enable = has a.command.0 0x20;
       doorbell = has a.command.0 0x40;
+      list_size = a.list_size;
       threshold = a.threshold;
       interrupt = has a.status.0 0x0001;
       error = has a.status.0 0x0002;
@@ -80,6 +82,7 @@ impl Registers {
     {
         Registers {
             command: Command::empty(),
+            list_size: 0,
             threshold: 8,
             status: Status::empty(),
             interrupt_enable: Status::empty(),
@@ -159,6 +162,18 @@ impl Registers {
         self.periodic_list_base
     }
 
+    /// The elements of the frame list: 1,024, or 512 where Frame List Size is 1, or 256 where it is 2 (EHCI 1.0 section 2.3.1).
+    pub fn list_length(&self) -> u16
+        ensures value { result ≡ 2 ^ levels_of self.now.list_size }
+        ensures bound { result ≤ 1024 }
+    {
+        match self.list_size {
+            1 => 512,
+            2 => 256,
+            _ => 1024,
+        }
+    }
+
     /// ASYNCLISTADDR: where the ring of queue heads is entered, a byte address that is a multiple of 32.
     pub fn async_list_address(&self) -> u32
         ensures value { result ≡ self.now.async_list_address }
@@ -206,6 +221,7 @@ impl Registers {
         ensures { result ≡ word_of self.now Register.Command }
     {
         self.running() as u32
+            | (self.list_size as u32) << 2
             | (self.periodic_on() as u32) << 4
             | (self.async_on() as u32) << 5
             | (self.rung() as u32) << 6
@@ -278,11 +294,34 @@ impl Registers {
     fn write_command(&mut self, word: u32)
         ensures { self.new ≡ after_write_to self.old Register.Command word }
     {
-        let written = Command::from_bits_retain(word);
-        if written.contains(Command::RESET) {
+        if Command::from_bits_retain(word).contains(Command::RESET) {
             self.restart();
             return;
         }
+        self.write_list_size(word);
+        self.write_enables(word);
+    }
+
+    // Frame List Size is written while halted.
+    fn write_list_size(&mut self, word: u32)
+        ensures { self.new ≡ record self.old { list_size = taken Write.StoredHalted self.old.run self.old.list_size (bits_of word 3 2) } }
+    {
+        if !self.running() {
+            self.list_size = ((word >> 2) & 3) as u8;
+        }
+    }
+
+    // Run, the enables, the doorbell and the threshold.
+    fn write_enables(&mut self, word: u32)
+        ensures { self.new ≡ record self.old {
+          run = bits_of word 0 0 == 1;
+          periodic_enable = bits_of word 4 4 == 1;
+          async_enable = bits_of word 5 5 == 1;
+          doorbell = taken Write.SetByOne self.old.run (one_if self.old.doorbell) (bits_of word 6 6) == 1;
+          threshold = bits_of word 23 16;
+        } }
+    {
+        let written = Command::from_bits_retain(word);
         let rung = self.command.intersection(Command::DOORBELL);
         self.command = written.intersection(Command::HELD).union(rung);
         self.threshold = ((word >> 16) & 0xff) as u8;
@@ -377,15 +416,26 @@ impl Registers {
         self.status.insert(bits.intersection(Status::RAISED));
     }
 
-    /// Begins the next microframe: FRINDEX rises by one, modulo 16,384, and Frame List Rollover is raised where its bit 13 changes (EHCI 1.0 sections 2.3.2 and 2.3.4).
-    /// Answers the new FRINDEX.
+    // Whether the frame list rolls over between two values of FRINDEX.
+    fn rolls_over(&self, before: u16, after: u16) -> bool
+        ensures { result ≡ not (after / 2 ^ (3 + levels_of self.now.list_size) == before / 2 ^ (3 + levels_of self.now.list_size)) }
+    {
+        match self.list_size {
+            1 => after >> 12 != before >> 12,
+            2 => after >> 11 != before >> 11,
+            _ => after >> 13 != before >> 13,
+        }
+    }
+
+    /// Begins the next microframe: FRINDEX rises by one, modulo 16,384, and Frame List Rollover is raised where its bit 13 changes, or with a list of 512 elements
+    /// bit 12, or of 256 bit 11 (EHCI 1.0 sections 2.3.2 and 2.3.4). Answers the new FRINDEX.
     pub fn begin_microframe(&mut self) -> u16
         ensures file { self.new ≡ after_begin self.old }
         ensures index { result ≡ self.new.frame_index }
     {
         let before = self.frame_index;
         self.frame_index = (before + 1) % 16_384;
-        if self.frame_index >> 13 != before >> 13 {
+        if self.rolls_over(before, self.frame_index) {
             self.status.insert(Status::ROLLOVER);
         }
         self.frame_index

@@ -56,7 +56,7 @@ abbrev pub met : ℕ → Option Kind
 met n = if n == 64 then Some AQueue else None
 
 abbrev pub base : Base
-base = record { run = true; async_enable = true; async_list_address = 0; periodic_enable = true; periodic_list_base = 4096 }
+base = record { run = true; async_enable = true; async_list_address = 0; periodic_enable = true; periodic_list_base = 4096; list_size = 0 }
 
 abbrev pub registers : RegisterFile
 registers = record reset_file { run = true; async_enable = true; periodic_enable = true; periodic_list_base = 4096 }

@@ -1,13 +1,13 @@
 -- Each event of the controller over a ring.
-use Rattle.std.proofs.Common.{◌≡◌, ◌≢◌, ℕ, ◌+◌, ◌*◌, ◌/◌, ◌%◌, ◌<◌, Bool, true, false, not, ◌&&◌, if◌then◌else◌, List, length, get_or, slice_index, Some, ap, refl, sym, subst, ◌∙◌, arith}
-use Rattle.law_controller.proofs.Common.{over_not_periodic, asynchronous_not_periodic as entered_part, asynchronous_not_periodic, copied_in_hand, periodic_not_asynchronous, over_apart, table_apart, later_empty}
+use Rattle.std.proofs.Common.{◌≡◌, ◌≢◌, ℕ, ◌+◌, ◌*◌, ◌/◌, ◌%◌, ◌^◌, ◌<◌, Bool, true, false, not, ◌&&◌, if◌then◌else◌, List, length, get_or, slice_index, Some, ap, refl, sym, subst, ◌∙◌, arith}
+use Rattle.law_controller.proofs.Common.{element_low as low, over_not_periodic, asynchronous_not_periodic as entered_part, asynchronous_not_periodic, copied_in_hand, periodic_not_asynchronous, over_apart, table_apart, later_empty}
 use Rattle.law_common.proofs.Booleans.{and_false}
 use Rattle.usb_base.specs.declared.packets.Ask.{Ask}
 use Rattle.usb_base.specs.declared.packets.Reply.{Reply}
 use Rattle.word_mem.specs.Memory.{word_at, reaches}
 use Rattle.word_mem.proofs.Words.{get_or-words_in}
 use Rattle.link_words.specs.Links.{link_read, is_end}
-use Rattle.op_registers.specs.RegisterFile.{RegisterFile}
+use Rattle.op_registers.specs.RegisterFile.{RegisterFile, levels_of}
 use Rattle.op_registers.specs.Events.{after_begin, next_index}
 use Rattle.hc_copy.specs.Overlay.{advanced}
 use Rattle.hc_copy.specs.WriteBack.{moved_by}
@@ -50,15 +50,15 @@ abbrev stepped : Content → Content
 stepped c = record c { registers = after_begin c.registers }
 
 element_of : RegisterFile → ℕ
-element_of r = r.frame_index / 8 % 1024
+element_of r = r.frame_index / 8 % 2 ^ levels_of r.list_size
 
 element_at : (base : Base) (member : ℕ → Bool) (parts : StructureSets) (hand : Hand) (c : Content) → IsControlled base member parts hand c → element_address (stepped c).registers ≡ base.periodic_list_base + 4 * element_of (stepped c).registers
 unfolding element_of
-element_at base member parts hand c k = ap (λ (b : Base). b.periodic_list_base + 4 * ((stepped c).registers.frame_index / 8 % 1024)) k.ring.registers
+element_at base member parts hand c k = ap (λ (b : Base). b.periodic_list_base + 4 * element_of (stepped c).registers) k.ring.registers
 
 element_low : (r : RegisterFile) → element_of r < 1024
 unfolding element_of
-element_low r = omega arith
+element_low r = low r.list_size (r.frame_index / 8)
 
 -- ---- a microframe begins
 

@@ -1,7 +1,7 @@
 -- Each event of the controller over a ring and the frames.
-use Rattle.std.proofs.Common.{◌≡◌, ◌≢◌, ℕ, ◌+◌, ◌*◌, ◌/◌, ◌%◌, ◌<◌, Bool, true, false, not, ◌&&◌, if◌then◌else◌, List, length, get_or, slice_index, Option, Some, None, ap, refl, sym, subst, ◌∙◌, ⊎_elim, inl, inr, arith}
+use Rattle.std.proofs.Common.{◌≡◌, ◌≢◌, ℕ, ◌+◌, ◌*◌, ◌/◌, ◌%◌, ◌^◌, ◌<◌, Bool, true, false, not, ◌&&◌, if◌then◌else◌, List, length, get_or, slice_index, Option, Some, None, ap, refl, sym, subst, ◌∙◌, ⊎_elim, inl, inr, arith}
 use Rattle.std.proofs.lemmas.Bool.{and_parts, true≢false}
-use Rattle.law_controller.proofs.Common.{over_not_periodic, asynchronous_not_periodic, periodic_not_asynchronous, table_head, over_apart, later_empty}
+use Rattle.law_controller.proofs.Common.{element_low as low, over_not_periodic, asynchronous_not_periodic, periodic_not_asynchronous, table_head, over_apart, later_empty}
 use Rattle.law_frames.proofs.Common.{none_some}
 use Rattle.usb_base.specs.declared.packets.Ask.{Ask}
 use Rattle.usb_base.specs.declared.packets.Reply.{Reply}
@@ -11,7 +11,7 @@ use Rattle.link_words.specs.declared.kinds.Link.{Link}
 use Rattle.link_words.specs.Links.{link_read}
 use Rattle.itd_sitd.specs.declared.itd.Itd.{Itd}
 use Rattle.itd_sitd.specs.declared.sitd.Sitd.{Sitd}
-use Rattle.op_registers.specs.RegisterFile.{RegisterFile}
+use Rattle.op_registers.specs.RegisterFile.{RegisterFile, levels_of}
 use Rattle.op_registers.specs.Events.{after_begin, next_index}
 use Rattle.async_walk.specs.declared.state.WalkStep.{WalkStep}
 use Rattle.async_walk.specs.declared.state.WalkStep.TheVariants as walks
@@ -182,15 +182,15 @@ frames_go begins transacts base member met parts hand frame c wire new after law
 -- ---- a microframe begins
 
 element_of : RegisterFile → ℕ
-element_of r = r.frame_index / 8 % 1024
+element_of r = r.frame_index / 8 % 2 ^ levels_of r.list_size
 
 element_at : (r : RegisterFile) (base : Base) → base_of r ≡ base → element_address r ≡ base.periodic_list_base + 4 * element_of r
 unfolding element_of
-element_at r base is = ap (λ (b : Base). b.periodic_list_base + 4 * (r.frame_index / 8 % 1024)) is
+element_at r base is = ap (λ (b : Base). b.periodic_list_base + 4 * element_of r) is
 
 element_low : (r : RegisterFile) → element_of r < 1024
 unfolding element_of
-element_low r = omega arith
+element_low r = low r.list_size (r.frame_index / 8)
 
 table_there : (m : Mem) (parts : StructureSets) (base : Base) → Tells m parts → (k : FrameList parts base) → HoldsTable m base.periodic_list_base k.words
 table_there m parts base told k = told.each base.periodic_list_base base.periodic_list_base (Table k.words) k.here

@@ -1,9 +1,9 @@
 -- A ring and the frames beside it, under a driver's stores, lends and returns of runs.
-use Rattle.std.proofs.Common.{◌≡◌, ◌≢◌, ℕ, ◌+◌, ◌*◌, ◌/◌, ◌%◌, ◌<◌, Bool, true, false, List, [], length, set, slice_index, Option, Some, None, ap, refl, sym, subst, ◌∙◌, ⊎_elim, arith}
+use Rattle.std.proofs.Common.{◌≡◌, ◌≢◌, ℕ, ◌+◌, ◌*◌, ◌/◌, ◌%◌, ◌^◌, ◌<◌, Bool, true, false, List, [], length, set, slice_index, Option, Some, None, ap, refl, sym, subst, ◌∙◌, ⊎_elim, arith}
 use Rattle.std.proofs.lemmas.Bool.{cases_eq}
 use Rattle.std.proofs.lemmas.Option.{same_Some}
 use Rattle.std.proofs.lemmas.List.{get_or-set_same, get_or-set_other, length-set}
-use Rattle.law_controller.proofs.Common.{over_not_periodic, table_apart, frame_at, none_table, word_there, over_not_asynchronous}
+use Rattle.law_controller.proofs.Common.{over_not_periodic, table_apart, frame_at, none_table, word_there, over_not_asynchronous, element_low}
 use Rattle.law_common.proofs.Numbers.{streamed_apart}
 use Rattle.usb_base.specs.declared.packets.Reply.{Reply}
 use Rattle.word_mem.specs.Memory.{Mem, with_word, word_at, reaches}
@@ -11,7 +11,7 @@ use Rattle.link_words.specs.declared.fields.LinkBits.{LinkBits}
 use Rattle.link_words.specs.Layout.{word_of, IsWordInRange}
 use Rattle.link_words.specs.Fields.{link_rows}
 use Rattle.link_words.specs.Links.{link_of, link_read, link_fields, IsLinkWord}
-use Rattle.op_registers.specs.RegisterFile.{RegisterFile}
+use Rattle.op_registers.specs.RegisterFile.{RegisterFile, levels_of}
 use Rattle.op_registers.specs.Events.{after_begin}
 use Rattle.async_walk.specs.Rows.{WalkPlace}
 use Rattle.hc_core.specs.declared.controller.MicroframePart.TheVariants.{Over, Periodic}
@@ -258,16 +258,13 @@ abbrev stepped : Content → Content
 stepped c = record c { registers = after_begin c.registers }
 
 abbrev element_of : RegisterFile → ℕ
-element_of r = r.frame_index / 8 % 1024
+element_of r = r.frame_index / 8 % 2 ^ levels_of r.list_size
 
 abbrev element_place : Base → Content → ℕ
 element_place base c = base.periodic_list_base + 4 * element_of (stepped c).registers
 
 element_at : (base : Base) (c : Content) → base_of c.registers ≡ base → element_address (stepped c).registers ≡ element_place base c
-element_at base c is = ap (λ (b : Base). b.periodic_list_base + 4 * ((stepped c).registers.frame_index / 8 % 1024)) is
-
-element_low : (i : ℕ) → i / 8 % 1024 < 1024
-element_low i = omega arith
+element_at base c is = ap (λ (b : Base). b.periodic_list_base + 4 * element_of (stepped c).registers) is
 
 table_there : (m : Mem) (base : Base) (parts : StructureSets) → Tells m parts → (list : FrameList parts base) → HoldsTable m base.periodic_list_base list.words
 table_there m base parts told list = told.each base.periodic_list_base base.periodic_list_base (Table list.words) list.here
@@ -284,12 +281,12 @@ began_is : (base : Base) (parts : StructureSets) (c : Content) (allowed : Bool) 
 unfolding begun_content
 began_is base parts c allowed told is list =
     ap (λ (b : Bool). begun_at b allowed (stepped c))
-    (ap (reaches c.memory) (element_at base c is) ∙ reached_there c.memory base parts (element_of (stepped c).registers) told list (element_low (stepped c).registers.frame_index))
+    (ap (reaches c.memory) (element_at base c is) ∙ reached_there c.memory base parts (element_of (stepped c).registers) told list (element_low c.registers.list_size ((stepped c).registers.frame_index / 8)))
 
 begun_at_element : (base : Base) (narrow : ℕ → Option Kind) (parts : StructureSets) (c : Content) → Tells c.memory parts → base_of c.registers ≡ base → (list : FrameList parts base) → LeadToMet narrow list.words → LeadsTo narrow (link_read (word_at c.memory (element_address (stepped c).registers)))
 begun_at_element base narrow parts c told is list elements =
     let i : ℕ = element_of (stepped c).registers in
-    let low : i < 1024 = element_low (stepped c).registers.frame_index in
+    let low : i < 1024 = element_low c.registers.list_size ((stepped c).registers.frame_index / 8) in
     let word : word_at c.memory (element_address (stepped c).registers) ≡ slice_index list.words i = ap (word_at c.memory) (element_at base c is) ∙ word_there c.memory base parts i told list low in
     subst (λ (w : ℕ). LeadsTo narrow (link_read w)) (sym word) (elements i low)
 

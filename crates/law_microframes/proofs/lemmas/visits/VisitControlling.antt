@@ -1,5 +1,5 @@
 -- Each event of the controller goes on with the visits.
-use Rattle.std.proofs.Common.{◌≡◌, ◌≢◌, ℕ, ◌+◌, ◌*◌, ◌<◌, ◌⊎◌, Bool, true, false, ◌&&◌, not, if◌then◌else◌, inl, inr, List, [], Option, Some, None, ⊎_elim, ap, refl, sym, subst, ◌∙◌}
+use Rattle.std.proofs.Common.{◌≡◌, ◌≢◌, ℕ, ◌+◌, ◌*◌, ◌/◌, ◌%◌, ◌^◌, ◌<◌, ◌⊎◌, Bool, true, false, ◌&&◌, not, if◌then◌else◌, inl, inr, List, [], Option, Some, None, ⊎_elim, ap, refl, sym, subst, ◌∙◌}
 use Rattle.std.proofs.lemmas.Bool.{false≢true}
 use Rattle.usb_base.specs.declared.packets.Ask.{Ask}
 use Rattle.usb_base.specs.declared.packets.Reply.{Reply}
@@ -8,7 +8,7 @@ use Rattle.link_words.specs.Links.{link_read}
 use Rattle.drv_chains.specs.declared.members.Predecessor.TheVariants.{Element}
 use Rattle.drv_chains.specs.Chains.{stands_in}
 use Rattle.drv_periodic.specs.Periodic.{address_of}
-use Rattle.op_registers.specs.RegisterFile.{RegisterFile}
+use Rattle.op_registers.specs.RegisterFile.{RegisterFile, levels_of}
 use Rattle.op_registers.specs.Events.{after_begin}
 use Rattle.async_walk.specs.declared.state.WalkStep.TheVariants as walks
 use Rattle.periodic_walk.specs.declared.state.Hand.{Hand}
@@ -52,7 +52,7 @@ use Rattle.law_world.proofs.lemmas.memory.Controller.{controller_keeps_mixed}
 use Rattle.law_microframes.specs.visits.OneDescriptor.{IsActiveDescriptor, WasActive}
 use Rattle.law_microframes.specs.visits.Began.{began_at, began_by}
 use Rattle.law_microframes.specs.visits.Ranks.{name_of, next_of, IsRanked}
-use Rattle.claims_world.specs.Visits.{IsInChain, visits_after, frame_in, HasVisited}
+use Rattle.claims_world.specs.Visits.{IsInChain, IsLedTo, visits_after, frame_in, HasVisited}
 use Rattle.law_microframes.specs.visits.Visited.{link_ahead, IsNext, IsBehind, IsActiveAs, IsFramedAs, GoesAhead, StandsIn, IsToCome, LeavesNoneOut, VisitsGoOn, VisitsGoOnAt}
 use Rattle.law_microframes.specs.visits.VisitLaws.{ControllerKeepsVisiting}
 use Rattle.law_microframes.proofs.lemmas.visits.AheadWalking.{goes_to}
@@ -166,12 +166,16 @@ module _ (fixed : Fixed) (s : Standing) (start w : World) (vs : List ℕ) (k : I
       ap (λ (x : Base). x.periodic_list_base) k.now.framed.runs.ring.registers
       ∙ begins_there opening_base s.member s.recent s.descs s.parts s.hand s.frame (controller_parts w) w.driver k.now
 
+  size_is : w.registers.list_size ≡ 0
+  size_is = ap (λ (x : Base). x.list_size) k.now.framed.runs.ring.registers
+
   first : (to : ℕ) → name_of (link_read (word_at w.memory (element_address (after_begin w.registers)))) ≡ Some to
       → IsNext g.visits.kept g.visits.height g.visits.who (frame_in (after_begin w.registers).frame_index) [] to
   first to is =
       let f : ℕ = frame_in (after_begin w.registers).frame_index in
       let at : word_at w.memory (element_address (after_begin w.registers)) ≡ word_at w.memory (address_of w.driver.periodic.list.list (Element (frame_in (after_begin w.registers).frame_index)))
-      = ap (λ (a : ℕ). word_at w.memory (a + 4 * frame_in (after_begin w.registers).frame_index)) base_is in
+      = ap (λ (n : ℕ). word_at w.memory ((after_begin w.registers).periodic_list_base + 4 * ((after_begin w.registers).frame_index / 8 % 2 ^ levels_of n))) size_is
+      ∙ ap (λ (a : ℕ). word_at w.memory (a + 4 * frame_in (after_begin w.registers).frame_index)) base_is in
       let one : LeadsToOne w.driver (frame_in (after_begin w.registers).frame_index) to
       = element_stands w.memory w.driver frames (frame_in (after_begin w.registers).frame_index) to (in_list (after_begin w.registers).frame_index)
       (ap (λ (x : ℕ). name_of (link_read x)) (sym at) ∙ is) in
@@ -304,7 +308,11 @@ module _ (fixed : Fixed) (s : Standing) (start w : World) (vs : List ℕ) (k : I
   begun_there : (reached allowed : Bool)
       → (begun_at reached allowed (record (controller_parts w) { registers = after_begin w.registers })).registers.run ≡ true
       → Begun (begun_at reached allowed (record (controller_parts w) { registers = after_begin w.registers })).control
-  begun_there true allowed run = λ n led. record { periodic = refl; leads = led }
+  begun_there true allowed run = λ n led. record {
+    periodic = refl;
+    leads = subst (λ (m : ℕ). IsLedTo w.memory n (name_of (link_read (word_at w.memory ((after_begin w.registers).periodic_list_base
+        + 4 * ((after_begin w.registers).frame_index / 8 % 2 ^ levels_of m)))))) (sym size_is) led;
+  }
   begun_there false allowed run = absurd (false≢true run)
 
   none_begun : HasRow begins_by transacts_by rows.Begin (controller_parts w) (wired fixed w) (controller_parts (controller_next fixed w))
