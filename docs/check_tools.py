@@ -107,6 +107,32 @@ def check_planned(program):
             amiss(f"the program has lines `{it}`, and FORMATS.md says that they aren't built")
 
 
+def check_images(room, program):
+    """An image with a base: its example, the picture of its dump, and what is told of its first wrong field."""
+    stored = TOP / "crates/gate_examples/data/dump-image-with-a-base"
+    whole, dump = stored.with_suffix(".in").read_bytes(), stored.with_suffix(".out").read_bytes()
+    if run(sys.executable, "examples/looping_queue.py", "7ff40000").stdout != whole:
+        amiss("examples/looping_queue.py writes another image with a base than the stored one")
+    picture = run(sys.executable, str(TOOLS / "draw_structures.py"), input=dump).stdout.decode()
+    if "qh 7ff41080" not in picture or not xml.dom.minidom.parseString(picture):
+        amiss("draw_structures.py draws no dump with a base")
+    address = "the first word's address is 7ff40020h: a multiple of 4096, with words that end below 4 GiB"
+    for image, said, told in (
+        (whole[:4] + b"\3" + whole[5:], "offset 4: version", "version 3 is none: 1 or 2"),
+        (whole[:20] + b" " + whole[21:], "offset 20: alignment", address),
+        (whole[:-4], "offset 8212: length", "words have a multiple of 4096 bytes from 4096 to 1048576, and there are 8188 behind the header"),
+    ):
+        (room / "image").write_bytes(image)
+        (room / "said").write_text(said + "\n")
+        got = run(sys.executable, str(TOOLS / "explain.py"), str(room / "image"), str(room / "said")).stdout.decode()
+        if told not in got:
+            amiss(f"explain.py of `{said}` with a base: {got!r}")
+        if program and run(program, "check", input=image).stdout.decode() != said + "\n":
+            amiss(f"the program says otherwise than `{said}` of an image with a base")
+    if program and run(program, "dump", input=whole).stdout != dump:
+        amiss("the program shows the stored image with a base otherwise")
+
+
 def check_install(room, program):
     """What `make install` puts there runs by itself, and goes again."""
     if not shutil.which("make"):
@@ -225,6 +251,7 @@ def main():
         check_planned(program)
         check_captures(room)
         check_pictures(program, trace)
+        check_images(room, program)
         if program:
             check_wrapper(room)
             check_install(room, program)

@@ -401,14 +401,18 @@ def fault(raw, line, cause):
 
 
 def offset_fault(raw, offset, cause):
-    fields = {8: "FRINDEX", 12: "PERIODICLISTBASE", 16: "ASYNCLISTADDR", 20: "the number of words"}
-    rules = {8: "at most 3fffh", 12: "a multiple of 4096", 16: "a multiple of 32", 20: "a multiple of 1024 from 1024 to 262144"}
+    second = int.from_bytes(raw[4:8], "little") == 2
+    fields = {8: "FRINDEX", 12: "PERIODICLISTBASE", 16: "ASYNCLISTADDR", 20: "the first word's address" if second else "the number of words"}
+    words = "a multiple of 4096, with words that end below 4 GiB" if second else "a multiple of 1024 from 1024 to 262144"
+    rules = {8: "at most 3fffh", 12: "a multiple of 4096", 16: "a multiple of 32", 20: words}
     if cause == "magic":
         return f"an image begins with the bytes `EHCI`, and this with {raw[:4].hex(' ')}"
     if cause == "version":
-        return f"version {int.from_bytes(raw[4:8], 'little')} is none: 1"
+        return f"version {int.from_bytes(raw[4:8], 'little')} is none: 1 or 2"
     if cause == "length" and len(raw) < 24:
         return f"the header has 24 bytes, and there are {len(raw)}"
+    if cause == "length" and second:
+        return f"words have a multiple of 4096 bytes from 4096 to 1048576, and there are {len(raw) - 24} behind the header"
     if cause == "length":
         return f"the header says {24 + 4 * int.from_bytes(raw[20:24], 'little')} bytes, and there are {len(raw)}"
     return f"{fields[offset]} is {int.from_bytes(raw[offset : offset + 4], 'little'):08x}h: {rules[offset]}"

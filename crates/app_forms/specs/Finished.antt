@@ -9,7 +9,7 @@ use Rattle.usb_base.specs.Outside.{Rose}
 use Rattle.script_types.specs.declared.scripts.Script.{Script}
 use Rattle.script_text.specs.Faults.{first_fault, is_image}
 use Rattle.bus_world.specs.AtWork.{StandingAtWork}
-use Rattle.image_codec.specs.Image.{image_fault}
+use Rattle.image_show.specs.ImageAt.{any_fault}
 use Rattle.app_ends.specs.Input.{input_of}
 use Rattle.app_ends.specs.declared.status.Status.{Status}
 use Rattle.app_ends.specs.declared.status.Status.TheVariants.{Ok, Memory}
@@ -22,7 +22,7 @@ abbrev pub IsSound : Form → List ℕ → Type 0
 IsSound Run input = first_fault input ≡ None
 IsSound Image input = first_fault input ≡ None
 IsSound Check input = is_sound_as (is_image input) input ≡ true
-IsSound Dump input = image_fault input ≡ None
+IsSound Dump input = any_fault input ≡ None
 IsSound (Load n) input = Unit {0}
 
 pub data IsFinished (runs : Script → StandingAtWork → Type 0) (form : Form) (input : List ℕ) (old new : Option (List ℕ)) : Status

@@ -17,7 +17,8 @@ use Rattle.bus_world.specs.Closing.{world_image}
 use Rattle.bus_world.specs.ClosingAtWork.{text_at_work}
 use Rattle.script_load.specs.Load.{load_text}
 use Rattle.report_load.specs.Summary.{summary_of, summary_line}
-use Rattle.image_codec.specs.Image.{image_bytes, image_fault, image_of}
+use Rattle.image_codec.specs.Image.{image_bytes}
+use Rattle.image_show.specs.ImageAt.{any_fault, any_image}
 use Rattle.image_show.specs.Shown.{shown}
 use Rattle.image_show.specs.Text.{refusal_line}
 use Rattle.image_codec.specs.declared.image.Refusal.{Refusal}
@@ -65,13 +66,13 @@ pub record RefusesScript (input bytes : List ℕ) : Type 0 where
 
 -- The input is an image, and the bytes are the text that shows it.
 pub record ShowsImage (input bytes : List ℕ) : Type 0 where
-  pub sound : image_fault input ≡ None
-  pub told : bytes ≡ shown (image_of input)
+  pub sound : any_fault input ≡ None
+  pub told : bytes ≡ shown (any_image input)
 
 -- The input is no image, and the line names the first thing that is wrong with it.
 pub record RefusesImage (input bytes : List ℕ) : Type 0 where
   pub refusal : Refusal
-  pub refused : image_fault input ≡ Some refusal
+  pub refused : any_fault input ≡ Some refusal
   pub line : bytes ≡ refusal_line refusal
 
 -- ---- what `check` says: of an image where the first four bytes are those of one, and else of a text
@@ -81,11 +82,11 @@ image_line None = line_text (codes "image" ∷ codes "ok" ∷ [])
 image_line (Some refusal) = refusal_line refusal
 
 abbrev pub checked_as : Bool → List ℕ → List ℕ
-checked_as true input = image_line (image_fault input)
+checked_as true input = image_line (any_fault input)
 checked_as false input = check_text input
 
 abbrev pub is_sound_as : Bool → List ℕ → Bool
-is_sound_as true input = is_none (image_fault input)
+is_sound_as true input = is_none (any_fault input)
 is_sound_as false input = is_none (first_fault input)
 
 -- the input is a script or an image, or it isn't; the line says so, or names the first thing that is wrong with it

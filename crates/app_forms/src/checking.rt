@@ -1,5 +1,5 @@
 ghost use Rattle.std.specs.Prelude.{◌≡◌, ◌≢◌, true, false, None};
-ghost use Rattle.image_codec.specs.Image.{image_fault};
+ghost use Rattle.image_show.specs.ImageAt.{any_fault};
 ghost use Rattle.script_text.specs.Faults.{first_fault, is_image};
 ghost use Rattle.app_ends.specs.Ends.{IsWriteFault, WritesNothing};
 ghost use Rattle.app_forms.specs.Output.{IsAnswer};
@@ -8,7 +8,8 @@ ghost use Rattle.bus_world.specs.RunsAtWork.{IsRunOfAtWork};
 use crate::form::Form;
 use crate::refusing::{refuse_image, refuse_script};
 use app_ends::Status;
-use image_codec::{ImageError, Refusal, decode};
+use image_codec::{ImageError, Refusal};
+use image_show::decode_any;
 use script_text::{TextError, is_image, parse, print_check};
 use std::alloc::Global;
 use usb_base::{Sink, write_all};
@@ -16,7 +17,7 @@ use usb_base::{Sink, write_all};
 /// Says that the input is an image.
 fn accept_image<K: Sink>(input: &[u8], sink: &mut K) -> Status
     requires image { is_image input.now ≡ true }
-    requires sound { image_fault input.now ≡ None }
+    requires sound { any_fault input.now ≡ None }
     ensures answer { IsAnswer IsRunOfAtWork Form.Check result input.now (K.written sink.old) (K.written sink.new) }
     ensures end { (result ≢ Status.Words) × (result ≢ Status.ReadFault) }
     ensures nothing { WritesNothing result → sink.new ≡ sink.old }
@@ -36,7 +37,7 @@ fn check_image<K: Sink>(alloc: Global, input: &[u8], sink: &mut K) -> Status
     ensures nothing { WritesNothing result → sink.new ≡ sink.old }
     ensures fault { IsWriteFault result (K.faults sink.old) (K.faults sink.new) }
 {
-    match decode(alloc, input) {
+    match decode_any(alloc, input) {
         Ok(_) => accept_image(input, sink),
         Err(ImageError::Refused { offset, why }) => {
             refuse_image(input, Refusal { offset, why }, sink)

@@ -1,5 +1,5 @@
 ghost use Rattle.std.specs.Prelude.{◌≡◌, ◌⊎◌, true, false, Some};
-ghost use Rattle.image_codec.specs.Image.{image_fault};
+ghost use Rattle.image_show.specs.ImageAt.{any_fault};
 ghost use Rattle.script_text.specs.Faults.{first_fault, is_image};
 ghost use Rattle.app_ends.specs.Ends.{IsWriteFault, WritesNothing};
 ghost use Rattle.app_forms.specs.Output.{IsAnswer};
@@ -31,7 +31,7 @@ pub fn refuse_script<K: Sink>(input: &[u8], line: u32, why: TextWhy, sink: &mut 
 
 /// Refuses an input that is no image, by the line of what is wrong with it first.
 pub fn refuse_image<K: Sink>(input: &[u8], refusal: Refusal, sink: &mut K) -> Status
-    requires { image_fault input.now ≡ Some refusal }
+    requires { any_fault input.now ≡ Some refusal }
     ensures dump { IsAnswer IsRunOfAtWork Form.Dump result input.now (K.written sink.old) (K.written sink.new) }
     ensures check { is_image input.now ≡ true
         → IsAnswer IsRunOfAtWork Form.Check result input.now (K.written sink.old) (K.written sink.new) }

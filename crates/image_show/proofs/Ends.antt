@@ -10,6 +10,7 @@ use Rattle.link_words.specs.declared.kinds.QtdLink.TheVariants as queue_links
 use Rattle.link_words.specs.Layout.{bits, is_set}
 use Rattle.link_words.specs.Links.{link_read, qtd_link_read, IsAligned, IsQtdAligned, address_of}
 use Rattle.image_show.specs.declared.ending.Ending.{Ending}
+use Rattle.image_show.specs.Base.{lowered, lowered_link, lowered_qtd}
 use Rattle.image_show.specs.Linked.{Linked, count, ending_at, first_below, first_ending, first_from, is_in, link_at, when}
 use Rattle.image_show.specs.Marks.{is_marked}
 use Rattle.image_show.specs.Shown.{chain, chain_ending, chain_endings, is_outside, queue, queue_address, queue_ending, queue_endings, units, word_at}
@@ -125,11 +126,11 @@ when_none : (holds : Bool) (e : Ending) → when holds e ≡ None → holds ≡ 
 when_none true e h = absurd (some_none e h)
 when_none false e h = refl
 
-queue_goes : (words : List ℕ) (here : Bool) (link : QtdLink) → queue_address link % 32 ≡ 0 → queue_ending words here link ≡ None
+queue_goes : (base : ℕ) (words : List ℕ) (here : Bool) (link : QtdLink) → queue_address link % 32 ≡ 0 → queue_ending base words here link ≡ None
     → (queue_address link / 32 < units words) × (here ≡ false)
-queue_goes words here queue_links.End a h = absurd (some_none _ h)
-queue_goes words here (queue_links.To at) a h =
-    let none = all_none (queue_endings words here (queue_links.To at)) h in
+queue_goes base words here queue_links.End a h = absurd (some_none _ h)
+queue_goes base words here (queue_links.To at) a h =
+    let none = all_none (queue_endings base words here (queue_links.To at)) h in
     let outside : is_outside words at 8 ≡ false = when_none _ _ none.1.0 in
     let inside : at + 32 ≤ 4 * length words = ltb-false _ _ outside in
     (omega arith, when_none _ _ none.1.1.0)
@@ -142,18 +143,33 @@ unfolding qtd_link_read
 queue_link_aligned w =
     cond_both _ queue_links.End (queue_links.To (w / 32 * 32)) (λ (l : QtdLink). queue_address l % 32 ≡ 0) (λ e. refl) (λ e. multiple (w / 32))
 
-queue_bounded : (words : List ℕ) → Bounded (queue words)
-queue_bounded words = record {
-  inside = λ begun here link a h. queue_goes words here link a h;
-  aligned = λ link. queue_link_aligned (word_at words (queue_address link));
+lowered_aligned : (base a : ℕ) → base % 32 ≡ 0 → a % 32 ≡ 0 → lowered base a % 32 ≡ 0
+lowered_aligned base a b h = omega arith
+
+lowered_qtd_aligned : (base : ℕ) (link : QtdLink) → base % 32 ≡ 0 → queue_address link % 32 ≡ 0
+    → queue_address (lowered_qtd base link) % 32 ≡ 0
+lowered_qtd_aligned base queue_links.End b h = refl
+lowered_qtd_aligned base (queue_links.To a) b h = lowered_aligned base a b h
+
+lowered_link_aligned : (base : ℕ) (link : Link) → base % 32 ≡ 0 → address_of link % 32 ≡ 0 → address_of (lowered_link base link) % 32 ≡ 0
+lowered_link_aligned base links.End b h = refl
+lowered_link_aligned base (links.Itd a) b h = lowered_aligned base a b h
+lowered_link_aligned base (links.Qh a) b h = lowered_aligned base a b h
+lowered_link_aligned base (links.Sitd a) b h = lowered_aligned base a b h
+lowered_link_aligned base (links.Fstn a) b h = lowered_aligned base a b h
+
+queue_bounded : (base : ℕ) (words : List ℕ) → base % 32 ≡ 0 → Bounded (queue base words)
+queue_bounded base words b = record {
+  inside = λ begun here link a h. queue_goes base words here link a h;
+  aligned = λ link. lowered_qtd_aligned base (qtd_link_read (word_at words (queue_address link))) b (queue_link_aligned (word_at words (queue_address link)));
 }
 
 first_in_queue : (first : QtdLink) → IsQtdAligned first → queue_address first % 32 ≡ 0
 first_in_queue queue_links.End a = refl
 first_in_queue (queue_links.To at) a = a
 
-pub queue_ends : (words : List ℕ) (first : QtdLink) → IsQtdAligned first → is_some (ending_at (queue words) first (count (queue words) first)) ≡ true
-queue_ends words first a = list_ends (queue words) first (queue_bounded words) (first_in_queue first a)
+pub queue_ends : (base : ℕ) (words : List ℕ) (first : QtdLink) → base % 32 ≡ 0 → IsQtdAligned first → is_some (ending_at (queue base words) first (count (queue base words) first)) ≡ true
+queue_ends base words first b a = list_ends (queue base words) first (queue_bounded base words b) (first_in_queue first a)
 
 -- a structure of some words that isn't outside is in a unit of memory
 in_unit : (words : List ℕ) (at n : ℕ) → length words % 8 ≡ 0 → 7 ≤ n → at % 32 ≡ 0 → is_outside words at n ≡ false → at / 32 < units words
@@ -161,20 +177,20 @@ in_unit words at n units some a outside =
     let inside : at + 4 * n ≤ 4 * length words = ltb-false _ _ outside in
     omega arith
 
-chain_goes : (words seen : List ℕ) (home : Option ℕ) (begun here earlier : Bool) (link : Link) → length words % 8 ≡ 0 → address_of link % 32 ≡ 0 → chain_ending words home begun here earlier link ≡ None
+chain_goes : (base : ℕ) (words seen : List ℕ) (home : Option ℕ) (begun here earlier : Bool) (link : Link) → length words % 8 ≡ 0 → address_of link % 32 ≡ 0 → chain_ending base words home begun here earlier link ≡ None
     → (address_of link / 32 < units words) × (here ≡ false)
-chain_goes words seen home begun here earlier links.End u a h = absurd (some_none _ h)
-chain_goes words seen home begun here earlier (links.Itd at) u a h =
-    let none = all_none (chain_endings words home begun here earlier (links.Itd at)) h in
+chain_goes base words seen home begun here earlier links.End u a h = absurd (some_none _ h)
+chain_goes base words seen home begun here earlier (links.Itd at) u a h =
+    let none = all_none (chain_endings base words home begun here earlier (links.Itd at)) h in
     (in_unit words at 16 u (omega arith) a (when_none _ _ none.1.1.0), when_none _ _ none.1.1.1.0)
-chain_goes words seen home begun here earlier (links.Qh at) u a h =
-    let none = all_none (chain_endings words home begun here earlier (links.Qh at)) h in
+chain_goes base words seen home begun here earlier (links.Qh at) u a h =
+    let none = all_none (chain_endings base words home begun here earlier (links.Qh at)) h in
     (in_unit words at 12 u (omega arith) a (when_none _ _ none.1.1.0), when_none _ _ none.1.1.1.0)
-chain_goes words seen home begun here earlier (links.Sitd at) u a h =
-    let none = all_none (chain_endings words home begun here earlier (links.Sitd at)) h in
+chain_goes base words seen home begun here earlier (links.Sitd at) u a h =
+    let none = all_none (chain_endings base words home begun here earlier (links.Sitd at)) h in
     (in_unit words at 7 u (omega arith) a (when_none _ _ none.1.1.0), when_none _ _ none.1.1.1.0)
-chain_goes words seen home begun here earlier (links.Fstn at) u a h =
-    let none = all_none (chain_endings words home begun here earlier (links.Fstn at)) h in
+chain_goes base words seen home begun here earlier (links.Fstn at) u a h =
+    let none = all_none (chain_endings base words home begun here earlier (links.Fstn at)) h in
     absurd (some_none _ none.1.1.1.1.1.0)
 
 -- a link's address, whatever its type
@@ -190,16 +206,16 @@ link_aligned : (w : ℕ) → address_of (link_read w) % 32 ≡ 0
 unfolding link_read
 link_aligned w = any_type (is_set 0 w) (eqb (bits 2 1 w) 0) (eqb (bits 2 1 w) 1) (eqb (bits 2 1 w) 2) (w / 32 * 32) (multiple (w / 32))
 
-chain_bounded : (words seen : List ℕ) (home : Option ℕ) → length words % 8 ≡ 0 → Bounded (chain words home seen)
-chain_bounded words seen home u = record {
-  inside = λ begun here link a h. chain_goes words seen home begun here (is_in (address_of link) seen) link u a h;
-  aligned = λ link. link_aligned (word_at words (address_of link));
+chain_bounded : (base : ℕ) (words seen : List ℕ) (home : Option ℕ) → base % 32 ≡ 0 → length words % 8 ≡ 0 → Bounded (chain base words home seen)
+chain_bounded base words seen home b u = record {
+  inside = λ begun here link a h. chain_goes base words seen home begun here (is_in (address_of link) seen) link u a h;
+  aligned = λ link. lowered_link_aligned base (link_read (word_at words (address_of link))) b (link_aligned (word_at words (address_of link)));
 }
 
 first_in_chain : (first : Link) → IsAligned first → address_of first % 32 ≡ 0
 first_in_chain links.End a = refl
 first_in_chain _ a = a
 
-pub chain_ends : (words seen : List ℕ) (home : Option ℕ) (first : Link) → length words % 8 ≡ 0 → IsAligned first
-    → is_some (ending_at (chain words home seen) first (count (chain words home seen) first)) ≡ true
-chain_ends words seen home first u a = list_ends (chain words home seen) first (chain_bounded words seen home u) (first_in_chain first a)
+pub chain_ends : (base : ℕ) (words seen : List ℕ) (home : Option ℕ) (first : Link) → base % 32 ≡ 0 → length words % 8 ≡ 0 → IsAligned first
+    → is_some (ending_at (chain base words home seen) first (count (chain base words home seen) first)) ≡ true
+chain_ends base words seen home first b u a = list_ends (chain base words home seen) first (chain_bounded base words seen home b u) (first_in_chain first a)

@@ -3,3 +3,4 @@ pub mod Listing
 pub mod Marking
 pub mod FrameTexts
 pub mod Ends
+mod Aligned

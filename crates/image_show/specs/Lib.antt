@@ -1,3 +1,5 @@
+pub mod Base
+pub mod ImageAt
 pub mod Text
 pub mod Linked
 pub mod Shown

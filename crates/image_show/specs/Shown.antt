@@ -1,4 +1,5 @@
--- The text that shows an image: each list with its structures in order, up to the first link that ends it.
+-- The text that shows an image: each list with its structures in order, up to the first link that ends it. Structures are found by their
+-- places; the text has their byte addresses.
 use Rattle.std.specs.Prelude.{ℕ, zero, suc, ◌+◌, ◌*◌, ◌/◌, Bool, true, false, not, ◌&&◌, ◌==◌, nat_lt, if◌then◌else◌, List, [], ◌∷◌, ◌++◌, length, take, drop, slice_index, codes, decimal, Option, Some, None, is_some, Result, Ok, Err}
 use Rattle.std.specs.Result.{result_err}
 use Rattle.usb_base.specs.Limits.{frame_list_length}
@@ -7,7 +8,7 @@ use Rattle.link_words.specs.declared.kinds.Link.{Link}
 use Rattle.link_words.specs.declared.kinds.Link.TheVariants as links
 use Rattle.link_words.specs.declared.kinds.QtdLink.{QtdLink}
 use Rattle.link_words.specs.declared.kinds.QtdLink.TheVariants as queue_links
-use Rattle.link_words.specs.Links.{address_of, is_end, link_read, qtd_link_read}
+use Rattle.link_words.specs.Links.{address_of, is_end}
 use Rattle.qh_qtd.specs.declared.qtd.Qtd.{Qtd}
 use Rattle.qh_qtd.specs.declared.queue_head.Qh.{Qh}
 use Rattle.qh_qtd.specs.Qtd.{qtd_read}
@@ -16,23 +17,24 @@ use Rattle.itd_sitd.specs.declared.itd.Itd.{Itd}
 use Rattle.itd_sitd.specs.declared.sitd.Sitd.{Sitd}
 use Rattle.itd_sitd.specs.Itd.{itd_read}
 use Rattle.itd_sitd.specs.Sitd.{sitd_read}
-use Rattle.image_codec.specs.declared.image.Image.{Image}
+use Rattle.image_show.specs.declared.image_at.ImageAt.{ImageAt}
+use Rattle.image_show.specs.Base.{lowered, raised, link_from, qtd_from}
 use Rattle.image_show.specs.declared.ending.Ending.{Ending}
 use Rattle.image_show.specs.declared.ending.Ending.TheVariants as endings
 use Rattle.image_show.specs.Linked.{Linked, count, first_ending, is_in, ending_line, list_text, passed, when}
 use Rattle.image_show.specs.Text.{hex, line}
 
--- ---- memory
+-- ---- memory, by places (specs/Base.antt)
 
--- the word at a byte address
+-- the word at a place
 abbrev pub word_at : List ℕ → ℕ → ℕ
 word_at words a = slice_index words (a / 4)
 
--- the n words from a byte address on
+-- the n words from a place on
 abbrev pub words_at : List ℕ → ℕ → ℕ → List ℕ
 words_at words a n = take n (drop (a / 4) words)
 
--- n words from an address on are not all within memory
+-- n words from a place on are not all within memory
 abbrev pub is_outside : List ℕ → ℕ → ℕ → Bool
 is_outside words a n = nat_lt (4 * length words) (a + 4 * n)
 
@@ -46,7 +48,7 @@ bad_ending a (Some bad) = Some (endings.Bad a bad)
 
 -- ---- queues (EHCI 1.0, 3.5)
 
--- the descriptor at a byte address
+-- the descriptor at a place
 abbrev pub descriptor : List ℕ → ℕ → Result Qtd Bad
 descriptor words a = qtd_read (words_at words a 8)
 
@@ -59,22 +61,23 @@ is_queue_end queue_links.End = true
 is_queue_end (queue_links.To a) = false
 
 -- the link of the descriptor that a link leads to
-abbrev pub next_in_queue : List ℕ → QtdLink → QtdLink
-next_in_queue words link = qtd_link_read (word_at words (queue_address link))
+abbrev pub next_in_queue : ℕ → List ℕ → QtdLink → QtdLink
+next_in_queue base words link = qtd_from base (word_at words (queue_address link))
 
 -- what ends a queue at a link, in order. `here` says that the link's descriptor is already in the queue.
-abbrev pub queue_endings : List ℕ → Bool → QtdLink → List (Option Ending)
-queue_endings words here link =
-    let a = queue_address link in
+abbrev pub queue_endings : ℕ → List ℕ → Bool → QtdLink → List (Option Ending)
+queue_endings base words here link =
+    let p = queue_address link in
+    let a = raised base p in
     when (is_queue_end link) endings.Silent
-    ∷ when (is_outside words a 8) (endings.Outside a)
+    ∷ when (is_outside words p 8) (endings.Outside a)
     ∷ when here (endings.Loop a)
-    ∷ bad_ending a (result_err (descriptor words a))
+    ∷ bad_ending a (result_err (descriptor words p))
     ∷ []
 
 -- why a queue ends at a link: the first that holds
-abbrev pub queue_ending : List ℕ → Bool → QtdLink → Option Ending
-queue_ending words here link = first_ending (queue_endings words here link)
+abbrev pub queue_ending : ℕ → List ℕ → Bool → QtdLink → Option Ending
+queue_ending base words here link = first_ending (queue_endings base words here link)
 
 abbrev pub pid_text : ℕ → List ℕ
 pid_text pid = if pid == 0 then codes "out" else if pid == 1 then codes "in" else codes "setup"
@@ -89,17 +92,17 @@ abbrev pub qtd_text : ℕ → ℕ → Result Qtd Bad → List ℕ
 qtd_text a token (Ok q) = qtd_line a token q
 qtd_text a token (Err bad) = []
 
--- the line of the descriptor at an address
-unfoldable pub descriptor_text : List ℕ → ℕ → List ℕ
-descriptor_text words a = qtd_text a (word_at words (a + 8)) (descriptor words a)
+-- the line of the descriptor at a place
+unfoldable pub descriptor_text : ℕ → List ℕ → ℕ → List ℕ
+descriptor_text base words p = qtd_text (raised base p) (word_at words (p + 8)) (descriptor words p)
 
 -- the queues of memory
-abbrev pub queue : List ℕ → Linked QtdLink
-queue words = record {
-  next = next_in_queue words;
+abbrev pub queue : ℕ → List ℕ → Linked QtdLink
+queue base words = record {
+  next = next_in_queue base words;
   address = queue_address;
-  ending = λ begun here link. queue_ending words here link;
-  text = λ link. descriptor_text words (queue_address link);
+  ending = λ begun here link. queue_ending base words here link;
+  text = λ link. descriptor_text base words (queue_address link);
   indent = codes "    ";
   most = units words;
 }
@@ -151,9 +154,10 @@ qh_line a token q =
     ++ codes " s " ++ hex 2 q.smask ++ codes " c " ++ hex 2 q.cmask ++ codes " token " ++ hex 8 token)
 
 -- a queue head, and then its queue from the overlay's next pointer on
-abbrev pub qh_text : List ℕ → ℕ → Result Qh Bad → List ℕ
-qh_text words a (Ok q) = qh_line a (word_at words (a + 24)) q ++ list_text (queue words) (qtd_link_read (word_at words (a + 16)))
-qh_text words a (Err bad) = []
+abbrev pub qh_text : ℕ → List ℕ → ℕ → Result Qh Bad → List ℕ
+qh_text base words p (Ok q) =
+    qh_line (raised base p) (word_at words (p + 24)) q ++ list_text (queue base words) (qtd_from base (word_at words (p + 16)))
+qh_text base words p (Err bad) = []
 
 abbrev pub itd_line : ℕ → Itd → List ℕ
 itd_line a i =
@@ -174,17 +178,17 @@ sitd_text a (Ok s) = sitd_line a s
 sitd_text a (Err bad) = []
 
 -- the lines of the structure that a link leads to
-unfoldable pub structure_text : List ℕ → Link → List ℕ
-structure_text words (links.Itd a) = itd_text a (itd_at_address words a)
-structure_text words (links.Qh a) = qh_text words a (queue_head words a)
-structure_text words (links.Sitd a) = sitd_text a (sitd_at_address words a)
-structure_text words _ = []
+unfoldable pub structure_text : ℕ → List ℕ → Link → List ℕ
+structure_text base words (links.Itd p) = itd_text (raised base p) (itd_at_address words p)
+structure_text base words (links.Qh p) = qh_text base words p (queue_head words p)
+structure_text base words (links.Sitd p) = sitd_text (raised base p) (sitd_at_address words p)
+structure_text base words _ = []
 
 -- ---- chains of frames, and the ring (EHCI 1.0, 3.1 and 4.8)
 
 -- the link of the structure that a link leads to
-abbrev pub next_in_chain : List ℕ → Link → Link
-next_in_chain words link = link_read (word_at words (address_of link))
+abbrev pub next_in_chain : ℕ → List ℕ → Link → Link
+next_in_chain base words link = link_from base (word_at words (address_of link))
 
 -- what T=1 ends: the chain of a frame, or the ring from `home` on
 abbrev pub end_of : Option ℕ → Ending
@@ -197,12 +201,13 @@ is_home (Some home) a = home == a
 
 -- What ends a chain, or the ring from `home` on, at a link, in order. `begun` says that it has structures already, `here`
 -- that the link's structure is one of them, and `earlier` that an earlier list has shown it.
-abbrev pub chain_endings : List ℕ → Option ℕ → Bool → Bool → Bool → Link → List (Option Ending)
-chain_endings words home begun here earlier link =
-    let a = address_of link in
+abbrev pub chain_endings : ℕ → List ℕ → Option ℕ → Bool → Bool → Bool → Link → List (Option Ending)
+chain_endings base words home begun here earlier link =
+    let p = address_of link in
+    let a = raised base p in
     when (is_end link) (end_of home)
-    ∷ when (begun && is_home home a) endings.Ring
-    ∷ when (is_outside words a (size_of link)) (endings.Outside a)
+    ∷ when (begun && is_home home p) endings.Ring
+    ∷ when (is_outside words p (size_of link)) (endings.Outside a)
     ∷ when here (endings.Loop a)
     ∷ when earlier (endings.Seen a)
     ∷ when (is_fstn link) (endings.Fstn a)
@@ -211,36 +216,36 @@ chain_endings words home begun here earlier link =
     ∷ []
 
 -- why it ends at a link: the first that holds
-abbrev pub chain_ending : List ℕ → Option ℕ → Bool → Bool → Bool → Link → Option Ending
-chain_ending words home begun here earlier link = first_ending (chain_endings words home begun here earlier link)
+abbrev pub chain_ending : ℕ → List ℕ → Option ℕ → Bool → Bool → Bool → Link → Option Ending
+chain_ending base words home begun here earlier link = first_ending (chain_endings base words home begun here earlier link)
 
 -- the chains of frames, or the ring from `home` on, where earlier lists have shown the structures `seen`
-abbrev pub chain : List ℕ → Option ℕ → List ℕ → Linked Link
-chain words home seen = record {
-  next = next_in_chain words;
+abbrev pub chain : ℕ → List ℕ → Option ℕ → List ℕ → Linked Link
+chain base words home seen = record {
+  next = next_in_chain base words;
   address = address_of;
-  ending = λ begun here link. chain_ending words home begun here (is_in (address_of link) seen) link;
-  text = structure_text words;
+  ending = λ begun here link. chain_ending base words home begun here (is_in (address_of link) seen) link;
+  text = structure_text base words;
   indent = codes "  ";
   most = units words;
 }
 
 -- ---- frames (EHCI 1.0, 3.1), and the whole text
 
--- the byte address of a frame list element
-abbrev pub element_at : Image → ℕ → ℕ
-element_at i n = i.list_base + 4 * n
+-- the place of a frame list element
+abbrev pub element_at : ImageAt → ℕ → ℕ
+element_at i n = lowered i.base i.list_base + 4 * n
 
 -- where a frame's chain begins; an element outside of memory begins none
-unfoldable pub frame_first : Image → ℕ → Link
-frame_first i n = if is_outside i.words (element_at i n) 1 then links.End else link_read (word_at i.words (element_at i n))
+unfoldable pub frame_first : ImageAt → ℕ → Link
+frame_first i n = if is_outside i.words (element_at i n) 1 then links.End else link_from i.base (word_at i.words (element_at i n))
 
--- the addresses of the structures that the first n frames show
-unfoldable pub seen_before : Image → ℕ → List ℕ
+-- the places of the structures that the first n frames show
+unfoldable pub seen_before : ImageAt → ℕ → List ℕ
 seen_before i zero = []
 seen_before i (suc n) =
     let seen = seen_before i n in
-    seen ++ passed (chain i.words None seen) (frame_first i n) (count (chain i.words None seen) (frame_first i n))
+    seen ++ passed (chain i.base i.words None seen) (frame_first i n) (count (chain i.base i.words None seen) (frame_first i n))
 
 unfoldable pub frame_line : ℕ → List ℕ
 frame_line n = line (codes "frame " ++ decimal n)
@@ -250,27 +255,34 @@ unfoldable pub outside_text : ℕ → ℕ → List ℕ
 outside_text n at = frame_line n ++ ending_line (codes "  ") (endings.Outside at)
 
 -- a frame whose element is within memory; T=1 there shows nothing
-abbrev pub frame_chain : Image → ℕ → Link → List ℕ
-frame_chain i n link = if is_end link then [] else frame_line n ++ list_text (chain i.words None (seen_before i n)) link
+abbrev pub frame_chain : ImageAt → ℕ → Link → List ℕ
+frame_chain i n link = if is_end link then [] else frame_line n ++ list_text (chain i.base i.words None (seen_before i n)) link
 
-unfoldable pub frame_text : Image → ℕ → List ℕ
+unfoldable pub frame_text : ImageAt → ℕ → List ℕ
 frame_text i n =
-    if is_outside i.words (element_at i n) 1 then outside_text n (element_at i n)
+    if is_outside i.words (element_at i n) 1 then outside_text n (raised i.base (element_at i n))
     else frame_chain i n (frame_first i n)
 
 -- the first n frames
-unfoldable pub frames_text : Image → ℕ → List ℕ
+unfoldable pub frames_text : ImageAt → ℕ → List ℕ
 frames_text i zero = []
 frames_text i (suc n) = frames_text i n ++ frame_text i n
 
-unfoldable pub header_line : Image → List ℕ
+-- where the words begin, if not at address 0
+abbrev pub base_text : ℕ → List ℕ
+base_text base = if base == 0 then [] else codes " from " ++ hex 8 base
+
+unfoldable pub header_line : ImageAt → List ℕ
 header_line i =
-    line (codes "frindex " ++ hex 4 i.frindex ++ codes " list " ++ hex 8 i.list_base ++ codes " async " ++ hex 8 i.async_at ++ codes " words " ++ decimal (length i.words))
+    line (codes "frindex " ++ hex 4 i.frindex ++ codes " list " ++ hex 8 i.list_base ++ codes " async " ++ hex 8 i.async_at ++ codes " words " ++ decimal (length i.words)
+    ++ base_text i.base)
 
 -- the ring begins at ASYNCLISTADDR, after the 1,024 frames
-unfoldable pub ring_text : Image → List ℕ
-ring_text i = line (codes "async") ++ list_text (chain i.words (Some i.async_at) (seen_before i frame_list_length)) (links.Qh i.async_at)
+unfoldable pub ring_text : ImageAt → List ℕ
+ring_text i =
+    line (codes "async")
+    ++ list_text (chain i.base i.words (Some (lowered i.base i.async_at)) (seen_before i frame_list_length)) (links.Qh (lowered i.base i.async_at))
 
 -- the shown text of an image
-unfoldable pub shown : Image → List ℕ
+unfoldable pub shown : ImageAt → List ℕ
 shown i = header_line i ++ (frames_text i frame_list_length ++ ring_text i)

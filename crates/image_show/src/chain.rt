@@ -1,19 +1,22 @@
 ghost use Rattle.std.specs.Prelude.{◌≡◌, ℕ, ◌+◌, ◌*◌, ◌/◌, ◌%◌, ◌≤◌, ◌<◌, ◌++◌, false, length, OnOk, OnErr, IfNone};
 ghost use Rattle.usb_base.specs.Limits.{frame_list_length, most_memory};
 ghost use Rattle.link_words.specs.Links.{IsAligned as IsLinkAligned, address_of, is_end};
-ghost use Rattle.image_codec.specs.Image.{IsAligned};
+ghost use Rattle.image_show.specs.Base.{raised};
+ghost use Rattle.image_show.specs.ImageAt.{IsAlignedAt};
 ghost use Rattle.image_show.specs.Linked.{count, list_text, passed};
 ghost use Rattle.image_show.specs.Marks.{is_marked_before, AreMarks};
 ghost use Rattle.image_codec.specs.Printing.{PrintsOn};
 ghost use Rattle.image_show.specs.Shown.{bad_of, chain, chain_ending, end_of, is_fstn, is_home, is_queue_head, seen_before, size_of, units};
 
+use crate::base::{link_from, raised};
 use crate::ending::Ending;
+use crate::image_at::ImageAt;
 use crate::lines::line_of_ending;
 use crate::queue::has_mark;
 use crate::structure::put_structure;
 use crate::structures::{reaches_outside, read_itd, read_queue_head, read_sitd, read_word};
-use image_codec::{Image, Page};
-use link_words::{Bad, Link, read};
+use image_codec::Page;
+use link_words::{Bad, Link};
 use usb_base::{Failed, Sink};
 
 /// Which list of an image is shown.
@@ -21,7 +24,7 @@ use usb_base::{Failed, Sink};
 pub struct ShownList {
     /// How many frames are shown before it.
     pub frames: u32,
-    /// Where the ring begins, and none for the chain of a frame.
+    /// The place where the ring begins, and none for the chain of a frame.
     pub home: Option<u32>,
 }
 
@@ -29,23 +32,24 @@ pub struct ShownList {
 pub fn put_chain<K: Sink>(
     page: &mut Page,
     sink: &mut K,
-    image: &Image,
+    image: &ImageAt,
     lists: &mut [u32],
     queues: &mut [u32],
     place: ShownList,
     first: Link,
 ) -> Result<(), Failed>
-    requires image { IsAligned image.now }
+    requires image { IsAlignedAt image.now }
     requires lists_whole { length lists.old ≡ units image.now.words }
     requires queues_whole { length queues.old ≡ units image.now.words }
     requires frames { place.frames ≤ frame_list_length }
     requires marks { AreMarks lists.old queues.old (place.frames + 1) (seen_before image.now place.frames) }
     requires aligned { IsLinkAligned first }
-    ensures printed { PrintsOn K.written K.faults sink.old sink.new page.old page.new result (list_text (chain image.now.words place.home (seen_before image.now place.frames)) first) }
-    ensures marked { let l = chain image.now.words place.home (seen_before image.now place.frames) in
+    ensures printed { PrintsOn K.written K.faults sink.old sink.new page.old page.new result (list_text (chain image.now.base image.now.words place.home (seen_before image.now place.frames)) first) }
+    ensures marked { let l = chain image.now.base image.now.words place.home (seen_before image.now place.frames) in
         OnOk result (AreMarks lists.new queues.new (place.frames + 2) (seen_before image.now place.frames ++ passed l first (count l first))) }
 {
     let words = image.words.as_slice();
+    let base = image.base;
     let number = place.frames + 1;
     let mut link = first;
     let mut begun = false;
@@ -53,12 +57,12 @@ pub fn put_chain<K: Sink>(
         let at = link.address();
         let here = has_mark(lists, number, at);
         let earlier = has_earlier_mark(lists, number, at);
-        if let Some(ending) = ending_of(words, place.home, begun, here, earlier, link) {
+        if let Some(ending) = ending_of(words, base, place.home, begun, here, earlier, link) {
             return page.put(sink, line_of_ending(b"  ", ending).as_slice());
         }
-        put_structure(page, sink, words, queues, link)?;
+        put_structure(page, sink, words, queues, base, link)?;
         lists[(at / 32) as usize] = number;
-        link = read(read_word(words, at));
+        link = link_from(base, read_word(words, at));
         begun = true;
     }
 }
@@ -134,6 +138,7 @@ fn bad_bit(words: &[u32], link: Link) -> Option<Bad>
 
 fn ending_of(
     words: &[u32],
+    base: u32,
     home: Option<u32>,
     begun: bool,
     here: bool,
@@ -142,13 +147,14 @@ fn ending_of(
 ) -> Option<Ending>
     requires memory { length words.now ≤ most_memory }
     requires aligned { IsLinkAligned link }
-    ensures ending { result ≡ chain_ending words.now home begun here earlier link }
+    ensures ending { result ≡ chain_ending base words.now home begun here earlier link }
     ensures inside { IfNone result (address_of link + 4 * size_of link ≤ 4 * length words.now) }
     ensures size { IfNone result (7 ≤ size_of link) }
     ensures fresh { IfNone result (here ≡ false) }
     ensures unseen { IfNone result (earlier ≡ false) }
 {
     let at = link.address();
+    let address = raised(base, at);
     let size = words_of_link(link);
     if link.is_end() {
         return Some(end_at(home));
@@ -157,22 +163,22 @@ fn ending_of(
         return Some(Ending::Ring);
     }
     if reaches_outside(words, at, size) {
-        return Some(Ending::Outside(at));
+        return Some(Ending::Outside(address));
     }
     if here {
-        return Some(Ending::Loop(at));
+        return Some(Ending::Loop(address));
     }
     if earlier {
-        return Some(Ending::Seen(at));
+        return Some(Ending::Seen(address));
     }
     if is_fstn_link(link) {
-        return Some(Ending::Fstn(at));
+        return Some(Ending::Fstn(address));
     }
     if let Some(bad) = bad_bit(words, link) {
-        return Some(Ending::Bad(at, bad));
+        return Some(Ending::Bad(address, bad));
     }
     if home.is_some() && !is_queue_head_link(link) {
-        return Some(Ending::Kind(at));
+        return Some(Ending::Kind(address));
     }
     None
 }

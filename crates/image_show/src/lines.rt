@@ -2,11 +2,12 @@ ghost use Rattle.std.specs.Prelude.{◌≡◌, ℕ, ◌≤◌, ◌++◌, length}
 ghost use Rattle.usb_base.specs.Limits.{most_memory};
 ghost use Rattle.image_show.specs.Linked.{ending_line, ending_text, is_silent};
 ghost use Rattle.image_show.specs.Text.{hex, refusal_line, why_text};
-ghost use Rattle.image_show.specs.Shown.{direction_text, frame_line, header_line, itd_line, pid_text, qh_line, qtd_line, sitd_line, speed_text};
+ghost use Rattle.image_show.specs.Shown.{base_text, direction_text, frame_line, header_line, itd_line, pid_text, qh_line, qtd_line, sitd_line, speed_text};
 
 use crate::ending::Ending;
+use crate::image_at::ImageAt;
 use crate::line::Line;
-use image_codec::{Image, ImageWhy, Refusal};
+use image_codec::{ImageWhy, Refusal};
 use itd_sitd::{Itd, Sitd};
 use link_words::Bad;
 use qh_qtd::{Qh, Qtd};
@@ -206,9 +207,9 @@ pub fn line_of_frame(n: u32) -> Line
     line
 }
 
-/// The first line of the text: the registers, and the number of words.
+/// The first line of the text: the registers, the number of words, and where they begin if not at address 0.
 #[tactic(auto, unfolding(crate::specs::Shown::header_line))]
-pub fn line_of_header(image: &Image) -> Line
+pub fn line_of_header(image: &ImageAt) -> Line
     requires { length image.now.words ≤ most_memory }
     ensures { result ≡ header_line image.now }
 {
@@ -221,8 +222,22 @@ pub fn line_of_header(image: &Image) -> Line
     line.put_word(image.async_at);
     line.put(b" words ");
     line.put_number(image.words.as_slice().len() as u32);
+    line.put(text_of_base(image.base).as_slice());
     line.put(b"\n");
     line
+}
+
+fn text_of_base(base: u32) -> Line
+    ensures text { result ≡ base_text base }
+    ensures length { length result ≤ 14 }
+{
+    let mut text = Line::new();
+    if base == 0 {
+        return text;
+    }
+    text.put(b" from ");
+    text.put_word(base);
+    text
 }
 
 /// The line that says why bytes are no image.

@@ -1,7 +1,7 @@
 ghost use Rattle.std.specs.Prelude.{◌≡◌, ℕ, ◌≤◌, ◌/◌, length, replicate, IfOk, IfErr, OnOk, OnErr};
 ghost use Rattle.std.specs.Io.KnownBytes.{Appends};
 ghost use Rattle.usb_base.specs.Outside.{AppendsPrefix, Prints, one_more};
-ghost use Rattle.image_codec.specs.Image.{IsAligned};
+ghost use Rattle.image_show.specs.ImageAt.{IsAlignedAt};
 ghost use Rattle.image_show.specs.Marks.{AreMarks};
 ghost use Rattle.image_show.specs.Shown.{seen_before, shown, units};
 ghost use Rattle.image_show.specs.Text.{refusal_line};
@@ -9,19 +9,20 @@ ghost use Rattle.image_show.specs.Show.{OnFailed, OnMemory};
 
 use crate::failure::ShowError;
 use crate::frames::{put_frames, put_ring};
+use crate::image_at::ImageAt;
 use crate::lines::{line_of_header, line_of_refusal};
-use image_codec::{Image, Page, Refusal};
+use image_codec::{Page, Refusal};
 use std::alloc::Global;
 use usb_base::{Failed, Memory, Sink, write_all};
 
-/// The mark of a unit that no queue has marked: it is the address of no queue head.
+/// The mark of a unit that no queue has marked: it is the place of no queue head.
 const NO_HEAD: u32 = 1;
 
 /// Writes the text that shows an image whose fields and number of words keep their ranges and alignments: its lists of
 /// structures, as the words have them. All memory is taken before the first write. `Failed` comes only where the sink's
 /// count of faults rose, with a front part of the text written; `Memory` comes with nothing written.
-pub fn show<K: Sink>(alloc: Global, image: &Image, sink: &mut K) -> Result<(), ShowError>
-    requires { IsAligned image.now }
+pub fn show<K: Sink>(alloc: Global, image: &ImageAt, sink: &mut K) -> Result<(), ShowError>
+    requires { IsAlignedAt image.now }
     ensures ok { OnOk result (Appends (K.written sink.old) (K.written sink.new) (shown image.now)) }
     ensures written { IfErr result (λ e. OnFailed e (AppendsPrefix (K.written sink.old) (K.written sink.new) (shown image.now))) }
     ensures stays { OnOk result (K.faults sink.new ≡ K.faults sink.old) }
@@ -61,11 +62,11 @@ fn marks_of(alloc: Global, units: usize, mark: u32) -> Result<Vec<u32>, Memory>
 
 fn put_image<K: Sink>(
     sink: &mut K,
-    image: &Image,
+    image: &ImageAt,
     lists: &mut [u32],
     queues: &mut [u32],
 ) -> Result<(), Failed>
-    requires image { IsAligned image.now }
+    requires image { IsAlignedAt image.now }
     requires lists { lists.old ≡ replicate (units image.now.words) 0 }
     requires queues { queues.old ≡ replicate (units image.now.words) 1 }
     ensures { Prints K.written K.faults sink.old sink.new result (shown image.now) }

@@ -1,9 +1,9 @@
-ghost use Rattle.image_codec.specs.Image.{IsAligned};
+ghost use Rattle.image_show.specs.ImageAt.{IsAlignedAt};
 
 use crate::of_image_codec::{changed, opening};
 use byteorder::{ByteOrder, LittleEndian};
-use image_codec::{Image, ImageWhy, Refusal, decode};
-use image_show::{ShowError, print_refusal, show};
+use image_codec::{ImageError, ImageWhy, Refusal};
+use image_show::{ImageAt, ShowError, decode_any, print_refusal, show};
 use std::alloc::{AllocError, Global};
 use std::process::Abort;
 use std::test::Fail;
@@ -22,7 +22,7 @@ fn with_words(alloc: Global, words: &[(u32, u32)]) -> Result<Vec<u8>, AllocError
 }
 
 fn text_of(alloc: Global, bytes: &[u8]) -> Result<MemSink, Fail> {
-    let image = decode(alloc, bytes)?;
+    let image = decode_any(alloc, bytes)?;
     let mut sink = MemSink::build(alloc, 100000, &[])?;
     show(alloc, &image, &mut sink)?;
     Ok(sink)
@@ -221,8 +221,8 @@ fn outside_text(alloc: Global) -> Result<String, AllocError> {
 
 /// An image shown into a sink whose call of this number fails: whether the sink is named, how many calls failed, and whether a front part
 /// of the text was written, 4,096 bytes a call at most.
-fn shown(alloc: Global, image: &Image, text: &[u8], call: u32) -> Result<(bool, u64, bool), Fail>
-    requires { IsAligned image.now }
+fn shown(alloc: Global, image: &ImageAt, text: &[u8], call: u32) -> Result<(bool, u64, bool), Fail>
+    requires { IsAlignedAt image.now }
 {
     let mut sink = MemSink::build(alloc, 100000, &[call])?;
     let is_failed = matches!(show(alloc, image, &mut sink), Err(ShowError::Failed(_)));
@@ -238,7 +238,7 @@ fn frame_list_outside_and_failing_sinks(rt: HostRuntime) -> Result<(), Fail> {
     let text = outside_text(rt.alloc())?;
     let sink = text_of(rt.alloc(), &outside)?;
     assert_eq!(rt; sink.written(), text.as_bytes());
-    let image = decode(rt.alloc(), &outside)?;
+    let image = decode_any(rt.alloc(), &outside)?;
     for call in 0..9u32 {
         let shown = shown(rt.alloc(), &image, text.as_bytes(), call)?;
         assert_eq!(rt; shown, (true, 1, true));
@@ -258,6 +258,116 @@ fn refusals_are_lines(rt: HostRuntime) -> Result<(), Fail> {
         let mut sink = MemSink::build(rt.alloc(), 100, &[])?;
         let is_told = print_refusal(Refusal { offset, why }, &mut sink).is_ok();
         assert_eq!(rt; (is_told, sink.written()), (true, line));
+    }
+    Ok(())
+}
+
+/// The bytes of the opening image as words from the address 7FF40000h on, some of them written otherwise.
+fn based(alloc: Global, words: &[(u32, u32)]) -> Result<Vec<u8>, AllocError> {
+    let bytes = with_words(alloc, words)?;
+    changed(
+        alloc,
+        &bytes,
+        &[
+            (4, 2),
+            (14, 0xf4),
+            (15, 0x7f),
+            (18, 0xf4),
+            (19, 0x7f),
+            (21, 0),
+            (22, 0xf4),
+            (23, 0x7f),
+        ],
+    )
+}
+
+// A ring, a queue and a frame whose links are addresses from the base on, and links that lead below it and past the last word.
+#[test]
+fn words_from_a_base(rt: HostRuntime) -> Result<(), Fail> {
+    let cases: [(&[(u32, u32)], &[u8]); 4] = [
+        (
+            &[(0x1000, 0x7ff4_1002)],
+            b"async\n  qh 7ff41000 0.0 high max 64 s 00 c 00 token 00000040\n  ring\n",
+        ),
+        (
+            &[(0x1000, 0x1002)],
+            b"async\n  qh 7ff41000 0.0 high max 64 s 00 c 00 token 00000040\n  outside at 00001000\n",
+        ),
+        (
+            &[(0x1000, 1), (0x1010, 0x7ff4_1fe0), (0x1fe0, 0x7ff4_2000)],
+            b"async\n  qh 7ff41000 0.0 high max 64 s 00 c 00 token 00000040\n    qtd 7ff41fe0 out total 0 cerr 0 token 00000000\n    outside at 7ff42000\n  end\n",
+        ),
+        (
+            &[
+                (0x14, 0x7ff4_1100),
+                (0x18, 0x7ff4_1100),
+                (0x1000, 1),
+                (0x1100, 1),
+                (0x1124, 0x203),
+                (0x1128, 0x900),
+                (0x112c, 2),
+            ],
+            b"frame 5\n  itd 7ff41100 3.2 in max 256 multi 2\nframe 6\n  seen 7ff41100\nasync\n  qh 7ff41000 0.0 high max 64 s 00 c 00 token 00000040\n  end\n",
+        ),
+    ];
+    for (words, lines) in cases {
+        let sink = text_of(rt.alloc(), &based(rt.alloc(), words)?)?;
+        let mut text = Vec::from_slice(
+            rt.alloc(),
+            b"frindex 0000 list 7ff40000 async 7ff41000 words 2048 from 7ff40000\n",
+        )?;
+        text.extend_from_slice(lines)?;
+        assert_eq!(rt; sink.written(), text.as_slice());
+    }
+    Ok(())
+}
+
+/// What is refused of bytes.
+fn refused(alloc: Global, bytes: &[u8]) -> Option<(u32, ImageWhy)> {
+    match decode_any(alloc, bytes) {
+        Err(ImageError::Refused { offset, why }) => Some((offset, why)),
+        _ => None,
+    }
+}
+
+// The first wrong field of a header with a base, and wrong numbers of bytes behind it.
+#[test]
+fn refusals_with_a_base(rt: HostRuntime) -> Result<(), Fail> {
+    let bytes = based(rt.alloc(), &[])?;
+    assert_eq!(rt; refused(rt.alloc(), &bytes), None);
+    let wrong = [
+        ((0, b'e'), 0, ImageWhy::Magic),
+        ((4, 3), 4, ImageWhy::Version),
+        ((9, 0x40), 8, ImageWhy::Alignment),
+        ((13, 8), 12, ImageWhy::Alignment),
+        ((16, 16), 16, ImageWhy::Alignment),
+        ((21, 8), 20, ImageWhy::Alignment),
+    ];
+    for (change, offset, why) in wrong {
+        let copy = changed(rt.alloc(), &bytes, &[change])?;
+        assert_eq!(rt; refused(rt.alloc(), &copy), Some((offset, why)));
+    }
+    for cut in [23, 24, 28, 4119, 4121, 8212, 8215u32] {
+        let front = bytes.get(..cut as usize).ok_or("a cut past the end")?;
+        assert_eq!(rt; refused(rt.alloc(), front), Some((cut, ImageWhy::Length)));
+    }
+    let one_page = bytes.get(..4120).ok_or("a cut past the end")?;
+    assert_eq!(rt; refused(rt.alloc(), one_page), None);
+    Ok(())
+}
+
+// The last address that words may begin at leaves the last page out.
+#[test]
+fn last_base(rt: HostRuntime) -> Result<(), Fail> {
+    let bytes = based(rt.alloc(), &[])?;
+    for (page, expected) in [
+        (0xd0, None),
+        (0xe0, Some((20, ImageWhy::Alignment))),
+        (0xf0, Some((20, ImageWhy::Alignment))),
+    ] {
+        let changes = [(21, page), (22, 0xff), (23, 0xff)];
+        let copy = changed(rt.alloc(), &bytes, &changes)?;
+        assert_eq!(rt; refused(rt.alloc(), &copy), expected);
     }
     Ok(())
 }

@@ -10,7 +10,7 @@ invariant-loop-ending g l = record {
   aligned : IsAligned l.link;
   lists_whole : length l.lists ≡ units l.image.words;
   queues_whole : length l.queues ≡ units l.image.words;
-  stage : (k : ℕ) × (Stage (chain l.image.words l.place.home (seen_before l.image l.place.frames)) l.fn.first l.number l.lists l.link k (g.K.Sink.written l.fn.sink) (g.K.Sink.written l.sink) l.fn.page l.page × (ltb 0 k ≡ l.begun));
+  stage : (k : ℕ) × (Stage (chain l.image.base l.image.words l.place.home (seen_before l.image l.place.frames)) l.fn.first l.number l.lists l.link k (g.K.Sink.written l.fn.sink) (g.K.Sink.written l.sink) l.fn.page l.page × (ltb 0 k ≡ l.begun));
   marks : InList l.lists l.queues l.number (seen_before l.image l.place.frames);
   counted : g.K.Sink.faults l.fn.sink ≤ g.K.Sink.faults l.sink;
   same : g.K.Sink.faults l.sink ≡ g.K.Sink.faults l.fn.sink;

@@ -1,7 +1,7 @@
 use Rattle.std.proofs.Common.{◌≡◌, ℕ, List, [], ◌++◌, refl, sym, ap, subst, ◌∙◌, append_assoc, append-nil, replicate, arith}
 use Rattle.std.proofs.lemmas.Result.{err_from_is_err_and}
 use Rattle.usb_base.specs.Outside.{one_more}
-use Rattle.image_codec.specs.declared.image.Image.{Image}
+use Rattle.image_show.specs.declared.image_at.ImageAt.{ImageAt}
 use Rattle.image_show.specs.Marks.{AreMarks}
 use Rattle.image_show.specs.Shown.{frames_text, header_line, ring_text, seen_before, shown, units}
 use Rattle.image_show.proofs.FrameTexts.{seen-none}
@@ -10,14 +10,14 @@ use Rattle.image_codec.proofs.Passing.{passes_join, prefix_all, prefix_from_empt
 use Rattle.image_codec.proofs.Paged.{on_flush, on_join}
 use Rattle.image_show.proofs.showing.put_image.Goals as goal
 
-whole : (i : Image) (header : List ℕ) → header ≡ header_line i → header ++ (frames_text i 1024 ++ ring_text i) ≡ shown i
+whole : (i : ImageAt) (header : List ℕ) → header ≡ header_line i → header ++ (frames_text i 1024 ++ ring_text i) ≡ shown i
 unfolding shown
 whole i header e = ap (λ (t : List ℕ). t ++ (frames_text i 1024 ++ ring_text i)) e
 
-whole_left : (i : Image) (header : List ℕ) → header ≡ header_line i → (header ++ frames_text i 1024) ++ ring_text i ≡ shown i
+whole_left : (i : ImageAt) (header : List ℕ) → header ≡ header_line i → (header ++ frames_text i 1024) ++ ring_text i ≡ shown i
 whole_left i header e = append_assoc header (frames_text i 1024) (ring_text i) ∙ whole i header e
 
-started : (i : Image) (lists queues : List ℕ) → lists ≡ replicate (units i.words) 0 → queues ≡ replicate (units i.words) 1 → AreMarks lists queues 1 (seen_before i 0)
+started : (i : ImageAt) (lists queues : List ℕ) → lists ≡ replicate (units i.words) 0 → queues ≡ replicate (units i.words) 1 → AreMarks lists queues 1 (seen_before i 0)
 started i lists queues l q =
     subst (λ (s : List ℕ). AreMarks lists queues 1 s) (seen-none i)
     (subst (λ (x : List ℕ). AreMarks x queues 1 []) (sym l) (subst (λ (x : List ℕ). AreMarks (replicate (units i.words) 0) x 1 []) (sym q) (are_marks-start (units i.words))))
