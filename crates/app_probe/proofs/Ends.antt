@@ -9,7 +9,7 @@ use Rattle.hc_core.specs.declared.controller.MicroframePart.TheVariants.{Over, P
 use Rattle.hc_core.specs.declared.controller.ControllerRow.{ControllerRow}
 use Rattle.hc_core.specs.declared.controller.ControllerRow.TheVariants as rows
 use Rattle.hc_core.specs.Controller.{Content, microframe_row, part_row, enter_row, ring_row, hc_step, frame_step, walk_step, entered, kind_of, HasRow}
-use Rattle.image_codec.specs.declared.image.Image.{Image}
+use Rattle.image_show.specs.declared.image_at.ImageAt.{ImageAt}
 use Rattle.app_probe.specs.declared.probing.Probed.{Probed}
 use Rattle.app_probe.specs.Silence.{may_be_used, is_silent}
 use Rattle.law_refusals.specs.Refusals.{IsOnce, Stops}
@@ -110,12 +110,12 @@ stays_halted n steps old new s e =
       some = omega (arith, none_more, some);
     })
 
-stands : (i : Image) (n steps : ℕ) (end : Content) → Events (opening i) n steps end → Stands n steps end
+stands : (i : ImageAt) (n steps : ℕ) (end : Content) → Events (opening i) n steps end → Stands n steps end
 stands i _ _ _ none = inl (record { run = refl; error = refl; foreign = refl; each = refl })
 stands i _ _ _ (next n steps old new earlier event) =
     ⊎_elim (λ (s : Runs n steps old). runs_on n steps old new s event) (λ (s : Halted n steps old). stays_halted n steps old new s event) (stands i n steps old earlier)
 
-pub ends_so : (i : Image) (n : ℕ) (p : Probed) → IsProbe i n p → EndsSo n p
+pub ends_so : (i : ImageAt) (n : ℕ) (p : Probed) → IsProbe i n p → EndsSo n p
 ends_so i n p probe =
     ⊎_elim
     (λ (s : Runs n p.steps probe.end). inl (record { fault = probe.fault ∙ s.error; foreign = probe.foreign ∙ s.foreign; steps = s.each }))

@@ -1,2 +1,3 @@
 pub mod Silence
+pub mod Window
 pub mod Probe

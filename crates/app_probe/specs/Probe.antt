@@ -1,28 +1,28 @@
--- A controller over the words of an image, all of them Lent to it, on a wire on which everything is silent (EHCI 1.0, 4.1 and 4.4 to 4.12).
+-- A controller over the words of an image, all of them Lent to it at their addresses, on a wire on which everything is silent (EHCI 1.0, 4.1 and 4.4 to 4.12).
 --     opening i                   where it begins: reset registers with the image's, and USBCMD written 00080031h
 --     Events start n steps end    n events, one after the other, of which `steps` weren't Idle
 --     IsProbe i n p               what is told of n events over the image i
 --     EndsSo n p                  how n events can end
 use Rattle.std.specs.Prelude.{◌≡◌, ℕ, ◌+◌, ◌≤◌, ◌⊎◌, true, false, [], ◌∷◌}
-use Rattle.word_mem.specs.Memory.{all_lent}
 use Rattle.word_mem.specs.Access.{IsByController}
 use Rattle.op_registers.specs.RegisterFile.{RegisterFile, reset_file}
 use Rattle.op_registers.specs.Table.{after_writes}
 use Rattle.hc_core.specs.declared.controller.HcStep.{HcStep}
 use Rattle.hc_core.specs.declared.controller.HcStep.TheVariants as steps
 use Rattle.hc_core.specs.Controller.{Content, content, new_control, microframe_row, kind_of}
-use Rattle.image_codec.specs.declared.image.Image.{Image}
+use Rattle.image_show.specs.declared.image_at.ImageAt.{ImageAt}
 use Rattle.app_probe.specs.declared.probing.Probed.{Probed}
 use Rattle.app_probe.specs.declared.silence.Silence.{Silence}
 use Rattle.app_probe.specs.Silence.{may_be_used, is_silent}
+use Rattle.app_probe.specs.Window.{lent_from}
 use Rattle.law_refusals.specs.Refusals.{IsEvent}
 
 -- FRINDEX, PERIODICLISTBASE and ASYNCLISTADDR of the image, then USBCMD: Run, both schedules, a threshold of 8 microframes (2.3)
-abbrev pub opening_registers : Image → RegisterFile
+abbrev pub opening_registers : ImageAt → RegisterFile
 opening_registers i = after_writes reset_file ((0x0c, i.frindex) ∷ (0x14, i.list_base) ∷ (0x18, i.async_at) ∷ (0x00, 0x00080031) ∷ [])
 
-abbrev pub opening : Image → Content
-opening i = content new_control (opening_registers i) (all_lent i.words)
+abbrev pub opening : ImageAt → Content
+opening i = content new_control (opening_registers i) (lent_from i.base i.words)
 
 -- ---- events
 
@@ -48,10 +48,10 @@ pub data Events (start : Content) : ℕ → ℕ → Content → Type 0 where
 
 -- ---- what is told of them
 
-pub record IsProbe (i : Image) (n : ℕ) (p : Probed) : Type 0 where
+pub record IsProbe (i : ImageAt) (n : ℕ) (p : Probed) : Type 0 where
   pub end : Content
   pub made : Events (opening i) n p.steps end
-  pub only_lent : IsByController (all_lent i.words) end.memory
+  pub only_lent : IsByController (lent_from i.base i.words) end.memory
   pub foreign : p.foreign ≡ end.memory.foreign
   pub fault : p.fault ≡ end.registers.host_system_error
 

@@ -8,7 +8,7 @@ use Rattle.std.specs.Io.KnownBytes.{Appends, Keeps}
 use Rattle.usb_base.specs.Outside.{AppendsPrefix}
 use Rattle.script_forms.specs.Syntax.{number_of}
 use Rattle.image_codec.specs.declared.image.Refusal.{Refusal}
-use Rattle.image_codec.specs.Image.{image_fault, image_of}
+use Rattle.image_show.specs.ImageAt.{any_fault, any_image}
 use Rattle.image_show.specs.Text.{refusal_line}
 use Rattle.app_probe.specs.declared.probing.Probed.{Probed}
 use Rattle.app_probe.specs.Probe.{IsProbe, EndsSo}
@@ -30,16 +30,16 @@ probed_line p = codes "steps " ++ (decimal p.steps ++ (codes " foreign " ++ (dec
 
 -- the input is an image, and the line tells what n events of a controller are over it
 pub record Tells (n : ℕ) (input bytes : List ℕ) : Type 0 where
-  pub sound : image_fault input ≡ None
+  pub sound : any_fault input ≡ None
   pub probed : Probed
-  pub probe : IsProbe (image_of input) n probed
+  pub probe : IsProbe (any_image input) n probed
   pub end : EndsSo n probed
   pub told : bytes ≡ probed_line probed
 
 -- the input is no image, and the line names the first thing that is wrong with it
 pub record Refuses (input bytes : List ℕ) : Type 0 where
   pub refusal : Refusal
-  pub refused : image_fault input ≡ Some refusal
+  pub refused : any_fault input ≡ Some refusal
   pub told : bytes ≡ refusal_line refusal
 
 abbrev pub Gives : ℕ → List ℕ → Status → List ℕ → Type 0

@@ -1,5 +1,5 @@
 ghost use Rattle.std.specs.Prelude.{◌≡◌, ◌≢◌, ◌↔◌, ◌⊎◌, None, Some, map, string_bytes, IfSome};
-ghost use Rattle.image_codec.specs.Image.{image_fault, image_of, IsAligned};
+ghost use Rattle.image_show.specs.ImageAt.{any_fault, any_image, IsAlignedAt};
 ghost use Rattle.app_probe.specs.Probe.{IsProbe, EndsSo};
 ghost use Rattle.app_ends.specs.Ends.{IsFault, IsLeft, IsWriteFault, WritesNothing};
 ghost use Rattle.app_ends.specs.Input.{input_of};
@@ -8,8 +8,8 @@ ghost use Rattle.app_probe_cli.specs.Output.{events_of, IsAnswer, IsProgram};
 use crate::line::line_of;
 use app_ends::{Status, Unread, read_input};
 use app_probe::{ProbeError, Probed, probe};
-use image_codec::{Image, ImageError, Refusal, decode};
-use image_show::print_refusal;
+use image_codec::{ImageError, Refusal};
+use image_show::{ImageAt, decode_any, print_refusal};
 use script_forms::number_of;
 use std::alloc::Global;
 use usb_base::{Sink, Source, write_all};
@@ -32,8 +32,8 @@ fn write_probed<K: Sink>(
     probed: &Probed,
     sink: &mut K,
 ) -> Status
-    requires sound { image_fault input.now ≡ None }
-    requires probe { IsProbe (image_of input.now) n probed.now }
+    requires sound { any_fault input.now ≡ None }
+    requires probe { IsProbe (any_image input.now) n probed.now }
     requires end { EndsSo n probed.now }
     ensures answer { IsAnswer n result input.now (K.written sink.old) (K.written sink.new) }
     ensures end { (result ≢ Status.Words) × (result ≢ Status.ReadFault) }
@@ -51,10 +51,16 @@ fn write_probed<K: Sink>(
 }
 
 /// Probes the image that the input is.
-fn probe_image<K: Sink>(alloc: Global, n: u32, input: &[u8], image: &Image, sink: &mut K) -> Status
-    requires sound { image_fault input.now ≡ None }
-    requires image { image.now ≡ image_of input.now }
-    requires aligned { IsAligned image.now }
+fn probe_image<K: Sink>(
+    alloc: Global,
+    n: u32,
+    input: &[u8],
+    image: &ImageAt,
+    sink: &mut K,
+) -> Status
+    requires sound { any_fault input.now ≡ None }
+    requires image { image.now ≡ any_image input.now }
+    requires aligned { IsAlignedAt image.now }
     ensures answer { IsAnswer n result input.now (K.written sink.old) (K.written sink.new) }
     ensures end { (result ≢ Status.Words) × (result ≢ Status.ReadFault) }
     ensures nothing { WritesNothing result → sink.new ≡ sink.old }
@@ -69,7 +75,7 @@ fn probe_image<K: Sink>(alloc: Global, n: u32, input: &[u8], image: &Image, sink
 
 /// Refuses an input that is no image, by the line of what is wrong with it first.
 fn refuse<K: Sink>(n: u32, input: &[u8], refusal: Refusal, sink: &mut K) -> Status
-    requires { image_fault input.now ≡ Some refusal }
+    requires { any_fault input.now ≡ Some refusal }
     ensures answer { IsAnswer n result input.now (K.written sink.old) (K.written sink.new) }
     ensures end { (result ≡ Status.Refused) ⊎ (result ≡ Status.WriteFault) }
     ensures nothing { WritesNothing result → sink.new ≡ sink.old }
@@ -88,7 +94,7 @@ fn probe_input<K: Sink>(alloc: Global, n: u32, input: &[u8], sink: &mut K) -> St
     ensures nothing { WritesNothing result → sink.new ≡ sink.old }
     ensures fault { IsWriteFault result (K.faults sink.old) (K.faults sink.new) }
 {
-    match decode(alloc, input) {
+    match decode_any(alloc, input) {
         Ok(image) => probe_image(alloc, n, input, &image, sink),
         Err(ImageError::Refused { offset, why }) => {
             refuse(n, input, Refusal { offset, why }, sink)

@@ -62,6 +62,37 @@ fn lines(rt: HostRuntime) -> Result<(), Fail> {
     Ok(())
 }
 
+/// The bytes of the same image as words from the address 7FF40000h on.
+fn based(alloc: Global, link: u32) -> Result<Vec<u8>, Fail> {
+    let mut bytes = image(alloc, link)?;
+    let fields = [2, 0, 0x7ff4_0000, 0x7ff4_1000, 0x7ff4_0000u32];
+    for (place, field) in fields.iter().enumerate() {
+        for (k, byte) in field.to_le_bytes().iter().enumerate() {
+            let at = 4 + 4 * place + k;
+            if at < bytes.len() {
+                bytes[at] = *byte;
+            }
+        }
+    }
+    Ok(bytes)
+}
+
+// A ring there goes round, and a link below the first word finds no word.
+#[test]
+fn words_from_a_base(rt: HostRuntime) -> Result<(), Fail> {
+    let rows: [(u32, &[u8]); 2] = [
+        (0x7ff4_1002, b"steps 100 foreign 0 fault no\n"),
+        (0x1002, b"steps 4 foreign 1 fault yes\n"),
+    ];
+    for (link, line) in rows {
+        let bytes = based(rt.alloc(), link)?;
+        let (status, written) = program(rt.alloc(), &["100"], &bytes, &[], &[])?;
+        assert_eq!(rt; status, Status::Ok);
+        assert_eq!(rt; written.as_slice(), line);
+    }
+    Ok(())
+}
+
 /// Whether these words are refused before anything is read or written.
 fn are_refused(rt: &impl Abort, alloc: Global, words: &[&str], input: &[u8]) -> Result<(), Fail> {
     let (status, written) = program(alloc, words, input, &[0], &[0])?;

@@ -3,7 +3,7 @@ ghost use Rattle.app_probe.specs.Silence.{may_be_used};
 
 use app_probe::{ProbeError, Probed, probe};
 use hc_core::{Controller, HcStep};
-use image_codec::Image;
+use image_show::ImageAt;
 use op_registers::Registers;
 use std::alloc::Global;
 use std::process::Abort;
@@ -13,7 +13,7 @@ use word_mem::WordMem;
 
 /// The image of 2,048 words with an empty frame list at 0 and the head of an empty ring at 1000h, with some words, by address, written
 /// otherwise.
-fn image(alloc: Global, changes: &[(u32, u32)]) -> Result<Image, Fail> {
+fn image(alloc: Global, changes: &[(u32, u32)]) -> Result<ImageAt, Fail> {
     let mut words = vec![in alloc; 0u32; 2048]?;
     for element in 0..1024 {
         words[element] = 1;
@@ -32,10 +32,11 @@ fn image(alloc: Global, changes: &[(u32, u32)]) -> Result<Image, Fail> {
             words[at] = *word;
         }
     }
-    Ok(Image {
+    Ok(ImageAt {
         frindex: 0,
         list_base: 0,
         async_at: 0x1000,
+        base: 0,
         words: ListOf::of(words),
     })
 }
@@ -115,7 +116,7 @@ fn numbers(rt: HostRuntime) -> Result<(), Fail> {
 }
 
 /// Whether an image is probed, or its alignment is refused.
-fn alignment_of(alloc: Global, image: &Image) -> Option<bool> {
+fn alignment_of(alloc: Global, image: &ImageAt) -> Option<bool> {
     match probe(alloc, image, 1) {
         Ok(_) => Some(true),
         Err(ProbeError::Alignment) => Some(false),
@@ -137,6 +138,24 @@ fn alignments(rt: HostRuntime) -> Result<(), Fail> {
         wild.list_base = list_base;
         wild.frindex = frindex;
         assert_eq!(rt; alignment_of(rt.alloc(), &wild), Some(is_aligned));
+    }
+    Ok(())
+}
+
+// Words from 7FF40000h on: a ring there goes round, and a link to the same place from address 0 on finds no word.
+#[test]
+fn words_from_a_base(rt: HostRuntime) -> Result<(), Fail> {
+    for (link, steps, foreign, fault) in [(0x7ff4_1002, 100, 0, false), (0x1002, 4, 1, true)] {
+        let mut wild = image(rt.alloc(), &[(0x1000, link)])?;
+        wild.base = 0x7ff4_0000;
+        wild.list_base = 0x7ff4_0000;
+        wild.async_at = 0x7ff4_1000;
+        let expected = Probed {
+            steps,
+            foreign,
+            fault,
+        };
+        assert_eq!(rt; probe(rt.alloc(), &wild, 100).ok(), Some(expected));
     }
     Ok(())
 }

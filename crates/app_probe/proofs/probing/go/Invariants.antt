@@ -5,8 +5,8 @@ use Rattle.app_probe.specs.Probe.{Events}
 use Rattle.app_probe.proofs.probing.go.Given as goal
 
 abbrev pub invariant-loop-event : goal.invariant-loop-event
-invariant-loop-event l = record {
-  made : Events (content l.initial.controller l.initial.regs l.initial.mem) l._event l.steps (content l.controller l.regs l.mem);
+invariant-loop-event g l = record {
+  made : Events (content l.initial.controller l.initial.regs (g.M.HcMemory.mem l.initial.mem)) l._event l.steps (content l.controller l.regs (g.M.HcMemory.mem l.mem));
   few : l.steps ≤ l._event;
-  only_lent : IsByController l.initial.mem l.mem;
+  only_lent : IsByController (g.M.HcMemory.mem l.initial.mem) (g.M.HcMemory.mem l.mem);
 }
