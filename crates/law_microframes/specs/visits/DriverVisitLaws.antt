@@ -7,7 +7,7 @@ use Rattle.drv_table.specs.declared.rows.DriverRow.{DriverRow}
 use Rattle.drv_table.specs.Offers.{IsOffered}
 use Rattle.bus_world.specs.World.{World, commanded}
 use Rattle.law_world.specs.memory.Mixed.{Standing, IsMixedAt}
-use Rattle.law_microframes.specs.visits.Visited.{VisitsGoOn, VisitsGoOnAt}
+use Rattle.law_microframes.specs.visits.Visited.{IsGoneOn, VisitsGoOnAt}
 use Rattle.law_microframes.specs.visits.VisitLaws.{RowKeepsVisiting}
 
 abbrev pub EachRowKeepsVisiting : Type 0
@@ -15,4 +15,4 @@ EachRowKeepsVisiting = (row : DriverRow) → RowKeepsVisiting row
 
 abbrev pub CommandLeavesVisits : Type 0
 CommandLeavesVisits = (s : Standing) (start w : World) (line : ℕ) (cmd : Cmd) (vs : List ℕ) → IsOffered w.driver.room cmd → IsMixedAt s w → VisitsGoOnAt s start w vs
-    → VisitsGoOn start (commanded w line cmd) vs
+    → IsGoneOn start w (commanded w line cmd) vs

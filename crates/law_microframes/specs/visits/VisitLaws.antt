@@ -26,7 +26,7 @@ use Rattle.law_world.specs.memory.Laws.{OpensMixed}
 use Rattle.law_world.specs.memory.PlacedLaws.{FitsMixed}
 use Rattle.law_microframes.specs.visits.Began.{began, began_by}
 use Rattle.claims_world.specs.Visits.{visits_after, visited, VisitsEachOnce}
-use Rattle.law_microframes.specs.visits.Visited.{VisitsGoOn, IsVisiting, VisitsGoOnAt}
+use Rattle.law_microframes.specs.visits.Visited.{VisitsGoOn, IsGoneOn, IsVisiting, VisitsGoOnAt}
 
 abbrev pub VisitsMeetNow : Type 0
 VisitsMeetNow = (s : Standing) (start w : World) (vs : List ℕ) → IsMixedAt s w → VisitsGoOn start w vs → VisitsGoOnAt s start w vs
@@ -41,7 +41,8 @@ ControllerKeepsVisiting = (fixed : Fixed) (start w : World) (vs : List ℕ) → 
     → IsVisiting (began_by fixed w start) (controller_next fixed w) (visits_after (controller_row w) (controller_parts w) vs)
 
 abbrev pub RowKeepsVisiting : DriverRow → Type 0
-RowKeepsVisiting row = (s : Standing) (start w : World) (vs : List ℕ) → IsMixedAt s w → VisitsGoOnAt s start w vs → driver_row (driver_parts w) ≡ row → VisitsGoOn start (driver_next w) vs
+RowKeepsVisiting row = (s : Standing) (start w : World) (vs : List ℕ) → IsMixedAt s w → VisitsGoOnAt s start w vs → driver_row (driver_parts w) ≡ row
+    → IsGoneOn start w (driver_next w) vs
 
 abbrev pub DriverKeepsVisiting : Type 0
 DriverKeepsVisiting = (start w : World) (vs : List ℕ) → IsVisiting start w vs → IsVisiting start (driver_next w) vs

@@ -14,15 +14,19 @@
 --     StandsIn d f n          the member that begins at n is one to which a word may lead, it stands in frame f, and no store that unlinks
 --                             it there was made
 --     IsToCome m c n          the walk comes to the structure at n, by the links in memory
+--     LinksNot w n            what is being linked in the frame list, if anything, isn't at n
+--     GoesBack w new          what the walk comes to in the world `new` it came to in w, and what stands in the frame stood there, unless it
+--                             is being linked
 --     LeavesNoneOut start m d c left vs
 --                             of those that were linked in the frame in the world `start` each may be met; and each that stands there still
 --                             was visited, or is to come
 --     VisitsGoOn start w vs   so it is in a world whose links lead down, and so are those that are kept and those that were visited; `start` is the world as its microframe began.
 --                             Of those that are kept each of which something is active stands in its frame alone
+--     IsGoneOn start w new vs     so it is in the world `new`, and from there it goes back to the world w
 --     IsVisiting start w vs   .. where nothing of the world is out of place
 --     VisitsGoOnAt s start w vs
 --                             .. where each of those whose links lead down may be met, and stands or was unlinked in this microframe
-use Rattle.std.specs.Prelude.{◌≡◌, ℕ, ◌*◌, ◌<◌, ◌⊎◌, Bool, true, false, List, slice_get, Option, Some, None}
+use Rattle.std.specs.Prelude.{◌≡◌, ◌≢◌, ℕ, ◌*◌, ◌<◌, ◌⊎◌, Bool, true, false, List, slice_get, Option, Some, None}
 use Rattle.std.specs.List.{AllByRecursion}
 use Rattle.word_mem.specs.Memory.{Mem}
 use Rattle.link_words.specs.declared.kinds.Link.{Link}
@@ -133,6 +137,16 @@ pub record IsToCome (m : Mem) (c : Control) (n : ℕ) : Type 0 where
   pub periodic : c.part ≡ Periodic
   pub leads : IsLedTo m n (name_of (link_ahead c.frame.hand c.frame.cursor))
 
+-- ---- from one world to the next
+
+abbrev pub LinksNot : World → ℕ → Type 0
+LinksNot w n = (x : Work) → w.driver.periodic.list.work ≡ Some x → x.removes ≡ false → n ≢ begins x.member
+
+pub record GoesBack (w new : World) : Type 0 where
+  pub came : (n : ℕ) → LinksNot w n → IsToCome new.memory new.control n → IsToCome w.memory w.control n
+  pub stood : (n : ℕ) → LinksNot w n → StandsIn new.driver (frame_in w.control.frame.index) n
+      → StandsIn w.driver (frame_in w.control.frame.index) n
+
 -- `left` was unlinked in this microframe
 pub record LeavesNoneOut (start : World) (m : Mem) (d : DriverContent) (c : Control) (left : ℕ → Option Kind) (vs : List ℕ) : Type 0 where
   pub were_met : (n : ℕ) → IsInChain start (frame_in c.frame.index) n → (kind : Kind) × (met d left n ≡ Some kind)
@@ -155,6 +169,11 @@ pub record VisitsGoOn (start w : World) (vs : List ℕ) : Type 0 where
   pub none : LeavesNoneOut start w.memory w.driver w.control left vs
   pub framed : (n : ℕ) → kept n ≡ true → IsFramedAs w.driver n (who n)
   pub were_framed : AllByRecursion (λ v. IsFramedAs w.driver v (who v)) vs
+
+-- .. and back, to the world before
+pub record IsGoneOn (start w new : World) (vs : List ℕ) : Type 0 where
+  pub visits : VisitsGoOn start new vs
+  pub back : GoesBack w new
 
 pub record IsVisiting (start w : World) (vs : List ℕ) : Type 0 where
   pub mixed : IsMixedWorld w

@@ -34,10 +34,10 @@ use Rattle.law_frames.specs.Met.{Kind}
 use Rattle.law_microframes.specs.visits.Belonging.{IsQueueAt, IsStillAt}
 use Rattle.law_microframes.specs.visits.Ranks.{next_of}
 use Rattle.law_microframes.specs.visits.DriverVisitLaws.{CommandLeavesVisits}
-use Rattle.law_microframes.specs.visits.Visited.{NewIsFirst, VisitsGoOn, VisitsGoOnAt}
+use Rattle.law_microframes.specs.visits.Visited.{NewIsFirst, IsGoneOn, VisitsGoOnAt}
 use Rattle.law_microframes.proofs.lemmas.visits.ActiveBefore.{command_before}
 use Rattle.law_microframes.proofs.lemmas.visits.NewFirst.{linking_first, next_first}
-use Rattle.law_microframes.proofs.lemmas.visits.DriverGoesOn.{IsListSpread, LeavesMembers, goes_on}
+use Rattle.law_microframes.proofs.lemmas.visits.DriverGoesOn.{IsListSpread, LeavesMembers, gone_on}
 use Rattle.law_microframes.proofs.lemmas.visits.DriverVisits.{half_led}
 use Rattle.law_microframes.proofs.lemmas.visits.FramedThere.{command_framed}
 use Rattle.law_microframes.proofs.lemmas.visits.InFrames.{same_back}
@@ -158,9 +158,9 @@ module _ (s : Standing) (w : World) (k : IsMixedAt s w) (start : World) (vs : Li
     back : (n : ℕ) (kind : Kind) → met w.driver v.visits.left n ≡ Some kind → (b : IsQueueAt o.driver n) → IsStillAt b w.driver
     back n kind on b = command_back s w k v.visits.left v.visits.left_are cmd o is now.framed.place.sound.owners n kind on b
 
-    accepted_visits : VisitsGoOn start (record w { driver = o.driver; memory = o.memory }) vs
+    accepted_visits : IsGoneOn start w (record w { driver = o.driver; memory = o.memory }) vs
     accepted_visits =
-        goes_on start w (record w { driver = o.driver; memory = o.memory }) vs v.visits spread spread_now (half_led s w k start vs v)
+        gone_on start w (record w { driver = o.driver; memory = o.memory }) vs v.visits spread spread_now (half_led s w k start vs v)
         (record {
           leaves = leaves_by reason;
           links = links;
@@ -174,11 +174,11 @@ module _ (s : Standing) (w : World) (k : IsMixedAt s w) (start : World) (vs : Li
           starts_none = λ e f n on. let there = v.within n on in command_before s w k cmd o is reason e f n there.0 there.1;
         })
 
-  refused_visits : (why : OfferError) → VisitsGoOn start (commanded_by w line (name_in cmd) (Err why)) vs
+  refused_visits : (why : OfferError) → IsGoneOn start w (commanded_by w line (name_in cmd) (Err why)) vs
   refused_visits why =
       let new : World = commanded_by w line (name_in cmd) (Err why) in
       let listed : IsListSpread w.driver = (now_has_frames opening_base s.member s.recent s.descs s.parts s.hand s.frame (controller_parts w) w.driver k.now).spread in
-      goes_on start w new vs v.visits listed listed (half_led s w k start vs v)
+      gone_on start w new vs v.visits listed listed (half_led s w k start vs v)
       (record {
         leaves = same_list w.driver new.driver refl;
         links = λ n on. refl;
@@ -202,11 +202,11 @@ module _ (s : Standing) (w : World) (k : IsMixedAt s w) (start : World) (vs : Li
         };
       })
 
-  by_offer : (r : Result Offered OfferError) → IsOffered w.driver.room cmd → offered w.driver w.memory cmd ≡ r → VisitsGoOn start (commanded_by w line (name_in cmd) r) vs
+  by_offer : (r : Result Offered OfferError) → IsOffered w.driver.room cmd → offered w.driver w.memory cmd ≡ r → IsGoneOn start w (commanded_by w line (name_in cmd) r) vs
   by_offer (Ok o) room is = accepted_visits o room is
   by_offer (Err why) room is = refused_visits why
 
-  pub command_visits : IsOffered w.driver.room cmd → VisitsGoOn start (commanded w line cmd) vs
+  pub command_visits : IsOffered w.driver.room cmd → IsGoneOn start w (commanded w line cmd) vs
   command_visits room = by_offer (offered w.driver w.memory cmd) room refl
 
 pub command_leaves_visits : CommandLeavesVisits

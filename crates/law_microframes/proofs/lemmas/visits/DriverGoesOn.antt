@@ -27,7 +27,7 @@ use Rattle.law_microframes.specs.visits.Belonging.{IsQueueAt, IsStillAt}
 use Rattle.law_microframes.specs.visits.OneDescriptor.{IsActiveDescriptor}
 use Rattle.law_microframes.specs.visits.Ranks.{name_of, next_of, height_to, IsRanked}
 use Rattle.claims_world.specs.Visits.{begins, frame_in, HasVisited}
-use Rattle.law_microframes.specs.visits.Visited.{WasVisited, IsBehind, IsActiveAs, IsFramedAs, NewIsFirst, StandsIn, IsToCome, LeavesNoneOut, VisitsGoOn, link_ahead}
+use Rattle.law_microframes.specs.visits.Visited.{WasVisited, IsBehind, IsActiveAs, IsFramedAs, NewIsFirst, StandsIn, IsToCome, GoesBack, LeavesNoneOut, VisitsGoOn, IsGoneOn, link_ahead}
 use Rattle.law_microframes.proofs.lemmas.visits.NoneLeft.{way_stays}
 
 -- the members of the list are spread
@@ -217,3 +217,26 @@ goes_on start w new vs v spread after half e =
       were_framed = were_framed_still d new.driver v.left v.who (frame_in w.control.frame.index) vs
           (λ n kind is. e.met_framed n kind (v.who n) is) v.behind.were v.were_framed;
     }
+
+-- .. and back
+came_back : (start w new : World) (vs : List ℕ) → (v : VisitsGoOn start w vs) → (c : Control) → c ≡ w.control → Elsewhere w new v.kept v.left
+    → (n : ℕ) → IsToCome new.memory c n → IsToCome w.memory w.control n
+came_back start w new vs v c same e n t =
+    let u : IsToCome new.memory w.control n = subst (λ (x : Control). IsToCome new.memory x n) same t in
+    record {
+      periodic = u.periodic;
+      leads = way_stays new.memory w.memory v.kept n (name_of (link_ahead w.control.frame.hand w.control.frame.cursor))
+          (λ a b on is. v.ranked.closed a b on (sym (e.links a on) ∙ is)) (λ a on. sym (e.links a on))
+          (λ a is. (v.behind.next a u.periodic is).is_kept) u.leads;
+    }
+
+pub gone_on : (start w new : World) (vs : List ℕ) → (v : VisitsGoOn start w vs) → IsListSpread w.driver → IsListSpread new.driver
+    → ((x : Work) → w.driver.periodic.list.work ≡ Some x → x.removes ≡ false → 1 ≤ x.made → is_linked (led w.driver) x.member ≡ true)
+    → Elsewhere w new v.kept v.left → IsGoneOn start w new vs
+gone_on start w new vs v spread after half e = record {
+  visits = goes_on start w new vs v spread after half e;
+  back = record {
+    came = λ n off t. came_back start w new vs v new.control e.control e n t;
+    stood = λ n off h. stood_before w.driver new.driver (frame_in w.control.frame.index) n e.leaves h;
+  };
+}

@@ -19,7 +19,7 @@ use Rattle.law_world.specs.memory.framed_memory.NowRows.{FramedLinked}
 use Rattle.law_world.proofs.lemmas.memory.lemmas.framed_memory.ChainedLent.{chain_comes_first}
 use Rattle.law_world.proofs.lemmas.memory.lemmas.framed_memory.NowRows.{link_keeps_now}
 use Rattle.law_world.specs.memory.Mixed.{IsChainToLend, IsChainThere, IsUnderWay, Standing, IsMixedAt}
-use Rattle.law_microframes.specs.visits.Visited.{VisitsGoOn, VisitsGoOnAt}
+use Rattle.law_microframes.specs.visits.Visited.{IsGoneOn, VisitsGoOnAt}
 use Rattle.law_microframes.specs.visits.VisitLaws.{RowKeepsVisiting}
 use Rattle.law_microframes.proofs.lemmas.visits.RowVisits.{described_visits, unchained_visits, chained_visits}
 use Rattle.law_microframes.proofs.lemmas.visits.UnlinkVisits.{unlink_visits}
@@ -43,7 +43,7 @@ module _ (s : Standing) (w : World) (k : IsMixedAt s w) (start : World) (vs : Li
   linked_by why comes =
       link_keeps_now opening_base s.member s.recent s.descs s.parts s.hand s.frame (controller_parts w) w.driver k.now why comes
 
-  link_visits : (c : Command) → (why : IsLinkOf (driver_parts w) (driver_row (driver_parts w))) → why.command ≡ c → VisitsGoOn start (driver_next w) vs
+  link_visits : (c : Command) → (why : IsLinkOf (driver_parts w) (driver_row (driver_parts w))) → why.command ≡ c → IsGoneOn start w (driver_next w) vs
   link_visits (unfinished.Open queue) why is = absurd (false≢true (ap links (sym is) ∙ why.links))
   link_visits (unfinished.Publish b words) why is = absurd (false≢true (ap links (sym is) ∙ why.links))
   link_visits (unfinished.Unlink e b link) why is = absurd (false≢true (ap links (sym is) ∙ why.links))
@@ -66,13 +66,14 @@ module _ (s : Standing) (w : World) (k : IsMixedAt s w) (start : World) (vs : Li
 
   -- ---- a harvested descriptor is unlinked
 
-  unlinked_by : (t : ℕ) (o : Option Transfer) → slice_get w.driver.transfers t ≡ o → driver_row (driver_parts w) ≡ rows.Unlink t → VisitsGoOn start (driver_next w) vs
+  unlinked_by : (t : ℕ) (o : Option Transfer) → slice_get w.driver.transfers t ≡ o → driver_row (driver_parts w) ≡ rows.Unlink t → IsGoneOn start w (driver_next w) vs
   unlinked_by t (Some y) there is = unlink_visits s w k start vs v t y is there
   unlinked_by t None there is =
-      subst (λ (r : DriverRow). VisitsGoOn start (with_parts w (after_driver_row r (driver_parts w))) vs) (sym is)
-      (subst (λ (o : Option Transfer). VisitsGoOn start (with_parts w (after_unlink (driver_parts w) t o)) vs) (sym there) v.visits)
+      subst (λ (r : DriverRow). IsGoneOn start w (with_parts w (after_driver_row r (driver_parts w))) vs) (sym is)
+      (subst (λ (o : Option Transfer). IsGoneOn start w (with_parts w (after_unlink (driver_parts w) t o)) vs) (sym there)
+      (record { visits = v.visits; back = record { came = λ n off t. t; stood = λ n off h. h } }))
 
-  by_row : (row : DriverRow) → driver_row (driver_parts w) ≡ row → IsDue (driver_parts w) row → VisitsGoOn start (driver_next w) vs
+  by_row : (row : DriverRow) → driver_row (driver_parts w) ≡ row → IsDue (driver_parts w) row → IsGoneOn start w (driver_next w) vs
   by_row rows.Lend is due = lend_visits s w k start vs v is
   by_row (rows.Store b at x) is due =
       ⊎_elim (λ (next : IsNextOf (driver_parts w) (rows.Store b at x)). store_visits s w k start vs v b at x is next)

@@ -45,9 +45,9 @@ use Rattle.law_world.proofs.lemmas.memory.lemmas.framed_memory.Now.{now_has_fram
 use Rattle.law_world.specs.memory.Mixed.{Standing, IsMixedAt, IsMixedWorld}
 use Rattle.law_microframes.specs.visits.OneDescriptor.{IsActiveDescriptor}
 use Rattle.law_microframes.specs.visits.Ranks.{name_of, next_of}
-use Rattle.law_microframes.specs.visits.Visited.{IsFramedAs, VisitsGoOn, VisitsGoOnAt}
+use Rattle.law_microframes.specs.visits.Visited.{IsFramedAs, IsGoneOn, VisitsGoOnAt}
 use Rattle.law_microframes.proofs.lemmas.visits.ActiveBefore.{driver_before}
-use Rattle.law_microframes.proofs.lemmas.visits.DriverGoesOn.{IsListSpread, LeavesMembers, goes_on}
+use Rattle.law_microframes.proofs.lemmas.visits.DriverGoesOn.{IsListSpread, LeavesMembers, gone_on}
 use Rattle.law_microframes.proofs.lemmas.visits.FramedThere.{driver_framed}
 use Rattle.law_microframes.proofs.lemmas.visits.InFrames.{row_back}
 use Rattle.law_microframes.proofs.lemmas.visits.LeftOwned.{has_name, own_store}
@@ -175,10 +175,10 @@ module _ (s : Standing) (w : World) (k : IsMixedAt s w) (start : World) (vs : Li
 
   pub elsewhere : (row : DriverRow) → driver_row (driver_parts w) ≡ row → LeavesMembers w.driver (next_by row).driver
       → ((n : ℕ) → v.visits.kept n ≡ true → next_of (next_by row).memory n ≡ next_of w.memory n) → AreRecent (next_by row).driver (next_by row).registers.frame_index v.visits.left
-      → VisitsGoOn start (driver_next w) vs
+      → IsGoneOn start w (driver_next w) vs
   elsewhere row is leaves links are =
-      subst (λ (r : DriverRow). VisitsGoOn start (next_by r) vs) (sym is)
-      (goes_on start w (next_by row) vs v.visits frames.spread (subst (λ (r : DriverRow). IsListSpread (next_by r).driver) is spread_next) half_led
+      subst (λ (r : DriverRow). IsGoneOn start w (next_by r) vs) (sym is)
+      (gone_on start w (next_by row) vs v.visits frames.spread (subst (λ (r : DriverRow). IsListSpread (next_by r).driver) is spread_next) half_led
       (record {
         leaves = leaves;
         links = links;
@@ -199,19 +199,21 @@ module _ (s : Standing) (w : World) (k : IsMixedAt s w) (start : World) (vs : Li
 
   -- ---- registers
 
-  pub rest_visits : driver_row (driver_parts w) ≡ rows.Rest → VisitsGoOn start (driver_next w) vs
-  rest_visits is = subst (λ (r : DriverRow). VisitsGoOn start (next_by r) vs) (sym is) v.visits
+  pub rest_visits : driver_row (driver_parts w) ≡ rows.Rest → IsGoneOn start w (driver_next w) vs
+  rest_visits is =
+      subst (λ (r : DriverRow). IsGoneOn start w (next_by r) vs) (sym is)
+      (record { visits = v.visits; back = record { came = λ n off t. t; stood = λ n off h. h } })
 
-  pub status_visits : (heard : Bool) → driver_row (driver_parts w) ≡ rows.ReadStatus heard → VisitsGoOn start (driver_next w) vs
+  pub status_visits : (heard : Bool) → driver_row (driver_parts w) ≡ rows.ReadStatus heard → IsGoneOn start w (driver_next w) vs
   status_visits heard is = elsewhere (rows.ReadStatus heard) is (same_list w.driver (next_by (rows.ReadStatus heard)).driver refl) (λ n on. refl) v.visits.left_are
 
-  pub cleared_visits : driver_row (driver_parts w) ≡ rows.ClearAdvance → VisitsGoOn start (driver_next w) vs
+  pub cleared_visits : driver_row (driver_parts w) ≡ rows.ClearAdvance → IsGoneOn start w (driver_next w) vs
   cleared_visits is = elsewhere rows.ClearAdvance is (same_list w.driver (next_by rows.ClearAdvance).driver refl) (λ n on. refl) v.visits.left_are
 
-  pub doorbell_visits : driver_row (driver_parts w) ≡ rows.RingBell → VisitsGoOn start (driver_next w) vs
+  pub doorbell_visits : driver_row (driver_parts w) ≡ rows.RingBell → IsGoneOn start w (driver_next w) vs
   doorbell_visits is = elsewhere rows.RingBell is (same_list w.driver (next_by rows.RingBell).driver refl) (λ n on. refl) v.visits.left_are
 
-  pub frame_read_visits : (n : ℕ) → driver_row (driver_parts w) ≡ rows.ReadFrame n → VisitsGoOn start (driver_next w) vs
+  pub frame_read_visits : (n : ℕ) → driver_row (driver_parts w) ≡ rows.ReadFrame n → IsGoneOn start w (driver_next w) vs
   frame_read_visits n is =
       let due : IsDue (driver_parts w) (rows.ReadFrame n) = subst (IsDue (driver_parts w)) is (each_event_is_due (driver_parts w)) in
       elsewhere (rows.ReadFrame n) is (same_list w.driver (next_by (rows.ReadFrame n)).driver refl) (λ n on. refl)
@@ -219,7 +221,7 @@ module _ (s : Standing) (w : World) (k : IsMixedAt s w) (start : World) (vs : Li
 
   -- ---- what is owed to a stalled endpoint
 
-  pub mend_visits : (x : Mend) → driver_row (driver_parts w) ≡ rows.Mend x → VisitsGoOn start (driver_next w) vs
+  pub mend_visits : (x : Mend) → driver_row (driver_parts w) ≡ rows.Mend x → IsGoneOn start w (driver_next w) vs
   mend_visits x is =
       let due : IsDue (driver_parts w) (rows.Mend x) = subst (IsDue (driver_parts w)) is (each_event_is_due (driver_parts w)) in
       let mending : IsMending x = first_mend w.driver.mends x due.1 k.now.framed.place.sound.ring.mends in
@@ -232,7 +234,7 @@ module _ (s : Standing) (w : World) (k : IsMixedAt s w) (start : World) (vs : Li
 
   own_row : (row : DriverRow) (g : DriverContent) → driver_row (driver_parts w) ≡ row → (next : IsNextOf (driver_parts w) row) → g.periodic.list ≡ w.driver.periodic.list → g.made ≡ w.driver.made
       → (next_by row).driver ≡ advanced_by g w.driver.command → (next_by row).registers.frame_index ≡ w.registers.frame_index → AreRecent (no_command g) w.registers.frame_index v.visits.left
-      → ((n : ℕ) → v.visits.kept n ≡ true → next_of (next_by row).memory n ≡ next_of w.memory n) → VisitsGoOn start (driver_next w) vs
+      → ((n : ℕ) → v.visits.kept n ≡ true → next_of (next_by row).memory n ≡ next_of w.memory n) → IsGoneOn start w (driver_next w) vs
   own_row row g is next list made driver_is index are links =
       let c : Command = next.command in
       let never : (e : ℕ) → c ≡ unfinished.Unchain e → ⊥ = no_events c w.driver.made row next.next in
@@ -248,14 +250,14 @@ module _ (s : Standing) (w : World) (k : IsMixedAt s w) (start : World) (vs : Li
   dropped : (row : DriverRow) → IsNextOf (driver_parts w) row → AreRecent (no_command w.driver) w.registers.frame_index v.visits.left
   dropped row next = no_unchain w.driver v.visits.left w.registers.frame_index (stays row next) v.visits.left_are
 
-  pub lend_visits : driver_row (driver_parts w) ≡ rows.Lend → VisitsGoOn start (driver_next w) vs
+  pub lend_visits : driver_row (driver_parts w) ≡ rows.Lend → IsGoneOn start w (driver_next w) vs
   lend_visits is =
       let next : IsNextOf (driver_parts w) rows.Lend = subst (IsDue (driver_parts w)) is (each_event_is_due (driver_parts w)) in
       let h : Holding = lend_taken (holding w.driver.book w.memory) in
       own_row rows.Lend (record w.driver { book = h.book }) is next refl refl refl refl (dropped rows.Lend next)
       (λ n on. ap (λ (ws : List ℕ). next_of (record h.memory { words = ws }) n) (lent_words (holding w.driver.book w.memory)))
 
-  pub store_visits : (b at x : ℕ) → driver_row (driver_parts w) ≡ rows.Store b at x → IsNextOf (driver_parts w) (rows.Store b at x) → VisitsGoOn start (driver_next w) vs
+  pub store_visits : (b at x : ℕ) → driver_row (driver_parts w) ≡ rows.Store b at x → IsNextOf (driver_parts w) (rows.Store b at x) → IsGoneOn start w (driver_next w) vs
   store_visits b at x is next =
       let sound = k.now.framed.place.sound in
       own_row (rows.Store b at x) w.driver is next refl refl refl refl (dropped (rows.Store b at x) next)
@@ -270,7 +272,7 @@ module _ (s : Standing) (w : World) (k : IsMixedAt s w) (start : World) (vs : Li
   noted_by e t count =
       with_notes w.driver w.registers.frame_index (take count (drop t w.driver.transfers)) (framed_notes w.driver w.registers.frame_index e t count (placement_at w.driver e))
 
-  pub frames_visits : driver_row (driver_parts w) ≡ rows.Frames → VisitsGoOn start (driver_next w) vs
+  pub frames_visits : driver_row (driver_parts w) ≡ rows.Frames → IsGoneOn start w (driver_next w) vs
   frames_visits is =
       let next : IsNextOf (driver_parts w) rows.Frames = subst (IsDue (driver_parts w)) is (each_event_is_due (driver_parts w)) in
       let i : IsIso next.command = iso_frames next.command w.driver.made next.next in
@@ -280,7 +282,7 @@ module _ (s : Standing) (w : World) (k : IsMixedAt s w) (start : World) (vs : Li
 
   -- ---- .. and are lent
 
-  pub described_lent_visits : driver_row (driver_parts w) ≡ rows.LendDescriptors → VisitsGoOn start (driver_next w) vs
+  pub described_lent_visits : driver_row (driver_parts w) ≡ rows.LendDescriptors → IsGoneOn start w (driver_next w) vs
   described_lent_visits is =
       let next : IsNextOf (driver_parts w) rows.LendDescriptors = subst (IsDue (driver_parts w)) is (each_event_is_due (driver_parts w)) in
       let i : IsIso next.command = iso_lends next.command w.driver.made next.next in

@@ -34,7 +34,7 @@ use Rattle.law_descriptors.specs.Removed.{IsRemovedAt, a_descriptor, a_queue, a_
 use Rattle.law_descriptors.specs.Recent.{AreRecent}
 use Rattle.bus_world.specs.World.{World, driver_parts, driver_next}
 use Rattle.law_world.specs.memory.Mixed.{Standing, IsMixedAt}
-use Rattle.law_microframes.specs.visits.Visited.{VisitsGoOn, VisitsGoOnAt}
+use Rattle.law_microframes.specs.visits.Visited.{IsGoneOn, VisitsGoOnAt}
 use Rattle.law_microframes.proofs.lemmas.visits.OwnSteps.{same_list}
 use Rattle.law_microframes.proofs.lemmas.visits.DriverVisits.{elsewhere}
 
@@ -179,7 +179,7 @@ harvest_recent d f e index recent leaves views other idle are n kind on =
 -- ---- the row
 
 module _ (s : Standing) (w : World) (k : IsMixedAt s w) (start : World) (vs : List ℕ) (v : VisitsGoOnAt s start w vs) where
-  pub harvest_visits : (e t : ℕ) (found : Found) → driver_row (driver_parts w) ≡ rows.Harvest e t found → VisitsGoOn start (driver_next w) vs
+  pub harvest_visits : (e t : ℕ) (found : Found) → driver_row (driver_parts w) ≡ rows.Harvest e t found → IsGoneOn start w (driver_next w) vs
   harvest_visits e t found is =
       let d : DriverContent = w.driver in
       let due : IsHarvestDue (driver_parts w) e t found = subst (IsDue (driver_parts w)) is (each_event_is_due (driver_parts w)) in

@@ -1,7 +1,7 @@
 -- The visits go on with a store of the frame list: where a member comes by it, and where it goes on or leaves.
 use Rattle.std.proofs.Common.{◌≡◌, ◌≢◌, ℕ, ◌+◌, ◌*◌, ◌<◌, ◌⊎◌, inl, inr, Bool, true, false, List, [], ◌∷◌, Option, Some, None, ⊎_elim, ap, refl, sym, subst, ◌∙◌, arith}
 use Rattle.std.specs.List.{AllByRecursion}
-use Rattle.std.specs.Prelude.{◌||◌, if◌then◌else◌}
+use Rattle.std.specs.Prelude.{◌||◌, nat_lt, if◌then◌else◌}
 use Rattle.std.proofs.lemmas.Bool.{false≢true, ne_eqb, eq-eqb, cases_eq}
 use Rattle.drv_chains.specs.declared.members.Descriptor.{Descriptor}
 use Rattle.drv_chains.specs.declared.members.QueueHead.{QueueHead}
@@ -39,7 +39,7 @@ use Rattle.law_world.proofs.lemmas.memory.lemmas.framed_memory.Now.{begins_there
 use Rattle.law_microframes.specs.visits.Ranks.{name_of, next_of}
 use Rattle.claims_world.specs.Visits.{IsInChain, begins, frame_in, HasVisited}
 use Rattle.law_microframes.specs.visits.Belonging.{IsQueueAt, IsStillAt}
-use Rattle.law_microframes.specs.visits.Visited.{link_ahead, IsNext, WasVisited, IsActiveAs, IsFramedAs, IsFirstIn, NewIsFirst, GoesAhead, IsToCome, LeavesNoneOut, VisitsGoOn, VisitsGoOnAt}
+use Rattle.law_microframes.specs.visits.Visited.{link_ahead, IsNext, WasVisited, IsActiveAs, IsFramedAs, IsFirstIn, NewIsFirst, GoesAhead, IsToCome, LeavesNoneOut, LinksNot, GoesBack, VisitsGoOn, IsGoneOn, VisitsGoOnAt}
 use Rattle.law_microframes.proofs.lemmas.visits.DriverGoesOn.{IsListSpread, IsMetStill, linked_stands, member_stands, met_still, standing_is_met, left_is_met, visited_still, active_still, were_active_still, were_framed_still}
 use Rattle.law_microframes.proofs.lemmas.visits.InFrames.{linked_active, row_back}
 use Rattle.law_microframes.proofs.lemmas.visits.LinkSteps.{ListStep, IsMetThere, its as its_way, all_led, name_kept, then_name, name_is_kept, name_away, same_ranked, first_ranked, still_kept, old_height, old_who, kept_then, height_then, who_then}
@@ -50,7 +50,7 @@ use Rattle.law_microframes.proofs.lemmas.visits.FramedThere.{driver_framed, lent
 use Rattle.law_microframes.proofs.lemmas.visits.OneDescriptor.{lent_framed}
 use Rattle.law_microframes.proofs.lemmas.visits.AheadStores.{IsQueue, is_queue, ahead_then, still_ahead, either_ahead, closed_then}
 use Rattle.law_microframes.proofs.lemmas.visits.ToldLinks.{HasOwn, own_met, own_part, table_apart, other_links, link_here}
-use Rattle.law_microframes.proofs.lemmas.visits.NoneLeftStores.{stood, spared, way_spliced}
+use Rattle.law_microframes.proofs.lemmas.visits.NoneLeftStores.{stood, spared, way_spliced, way_back}
 
 -- a queue head is there
 record IsHeadAt (parts : StructureSets) (n : ℕ) : Type 0 where
@@ -223,6 +223,28 @@ module _ (s : Standing) (w : World) (k : IsMixedAt s w) (start : World) (vs : Li
         (stood w.memory (driver_next w).memory w.driver (driver_next w).driver p way st step frame n (known n led) stands));
   }
 
+  -- ---- and back
+
+  removal_is_led : way.removes ≡ true → is_led way ≡ true
+  removal_is_led removes = ap (λ (b : Bool). b || nat_lt 0 way.made) removes
+
+  store_back : next_of (driver_next w).memory (begins way.member) ≡ next_of w.memory (begins way.member) → GoesBack w (driver_next w)
+  store_back own_link = record {
+    came = λ n off t. record {
+      periodic = t.periodic;
+      leads = way_back w.memory (driver_next w).memory w.driver (driver_next w).driver p way st step v.visits.kept v.visits.height
+          v.visits.who v.visits.ranked links here own_link frame n frame_low (λ adds. off way (step.work adds) adds)
+          (name_of (link_ahead w.control.frame.hand w.control.frame.cursor))
+          (λ a is. (let next = v.visits.behind.next a t.periodic is in (next.is_kept, next.stands))) t.leads;
+    };
+    stood = λ n off stands.
+        stood w.memory (driver_next w).memory w.driver (driver_next w).driver p way st step frame n (known n off way.removes refl) stands;
+  }
+    where
+      known : (n : ℕ) → LinksNot w n → (b : Bool) → way.removes ≡ b → (n ≢ begins way.member) ⊎ (is_led way ≡ true)
+      known n off false adds = inl (off way (step.work adds) adds)
+      known n off true removes = inr (removal_is_led removes)
+
   -- ---- a member goes on to be linked, or leaves
 
   head_on : is_led way ≡ true → (q : QueueHead) → way.member ≡ Each q → IsHeadAt (both s.descs s.parts) (begins way.member)
@@ -234,8 +256,8 @@ module _ (s : Standing) (w : World) (k : IsMixedAt s w) (start : World) (vs : Li
       (k.now.framed.runs.members (begins way.member) (kind_of w.driver.periodic way.member)
       (ap (λ (o : Option Kind). or_recent o (s.recent (begins way.member))) (linked_stands w.driver way.member step.frames.spread linked)))
 
-  pub store_goes_on : is_led way ≡ true → VisitsGoOn start (driver_next w) vs
-  store_goes_on on = record {
+  store_visits : is_led way ≡ true → VisitsGoOn start (driver_next w) vs
+  store_visits on = record {
     left = later;
     left_are = left_are;
     kept = v.visits.kept;
@@ -263,6 +285,14 @@ module _ (s : Standing) (w : World) (k : IsMixedAt s w) (start : World) (vs : Li
     were_framed = were_framed_still w.driver (driver_next w).driver v.visits.left v.visits.who frame vs
         (λ n kind is. driver_framed s w k v.visits.left n kind (v.visits.who n) v.visits.left_are is) v.visits.behind.were
         v.visits.were_framed;
+  }
+
+  pub store_goes_on : is_led way ≡ true → IsGoneOn start w (driver_next w) vs
+  store_goes_on on = record {
+    visits = store_visits on;
+    back = store_back
+        (then_name w.memory (driver_next w).memory w.driver (driver_next w).driver p way st step v.visits.kept v.visits.height v.visits.who
+        v.visits.ranked links here beside on);
   }
 
   -- ---- a member comes
@@ -401,8 +431,8 @@ module _ (s : Standing) (w : World) (k : IsMixedAt s w) (start : World) (vs : Li
       were_framed_on xs were.1 all.1,
     )
 
-    pub member_comes : VisitsGoOn start (driver_next w) vs
-    member_comes = record {
+    member_visits : VisitsGoOn start (driver_next w) vs
+    member_visits = record {
       left = later;
       left_are = left_are;
       kept = kept_on;
@@ -432,3 +462,6 @@ module _ (s : Standing) (w : World) (k : IsMixedAt s w) (start : World) (vs : Li
           (let there = v.visits.none.were_met n led in none_some there.0
           (sym unvisited ∙ ap (met w.driver v.visits.left) (sym same) ∙ there.1))));
     }
+
+    pub member_comes : IsGoneOn start w (driver_next w) vs
+    member_comes = record { visits = member_visits; back = store_back own_link }

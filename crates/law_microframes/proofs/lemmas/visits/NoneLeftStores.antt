@@ -1,6 +1,6 @@
 -- A store of the frame list leaves each way of the frame's to a structure, unless it unlinks that there: it puts a member between two others of the way, or takes one out of it (EHCI 1.0,
 -- 3.1, 3.3.1 and 4.6).
-use Rattle.std.proofs.Common.{◌≡◌, ◌≢◌, ℕ, zero, suc, ◌+◌, ◌<◌, ◌⊎◌, Bool, true, false, List, [], ◌∷◌, ◌++◌, Option, Some, None, if◌then◌else◌, ⊎_elim, ap, refl, sym, subst, ◌∙◌, arith}
+use Rattle.std.proofs.Common.{◌≡◌, ◌≢◌, ℕ, zero, suc, ◌+◌, ◌<◌, ◌⊎◌, inl, inr, Bool, true, false, List, [], ◌∷◌, ◌++◌, Option, Some, None, if◌then◌else◌, ⊎_elim, ap, refl, sym, subst, ◌∙◌, arith}
 use Rattle.std.specs.Prelude.{◌||◌, slice_get, take}
 use Rattle.std.proofs.lemmas.Bool.{true≢false, false≢true, and_parts, and_from, or_cases, eqb-true, cases_eq, cases_Bool}
 use Rattle.std.proofs.lemmas.Option.{same_Some}
@@ -230,3 +230,95 @@ module _ (m mem : Mem) (d new : DriverContent) (p : Periodic) (w : Work) (st : S
             (at_store w.removes refl (subst (λ (i : ℕ). kept i ≡ true) same on) (subst (λ (i : ℕ). stands_in f (who i) ≡ true) same stands)
             (subst (λ (i : ℕ). IsLedTo mem n (next_of m i)) same led_there)))
             (λ (differs : a ≢ st.at). subst (IsLedTo mem n) (sym (links a on differs)) led_there) (cases_eq a st.at)
+
+  -- ---- a way back
+
+  -- what the way comes to after the store it came to before, unless the store links that
+  module _ (kept : ℕ → Bool) (height : ℕ → ℕ) (who : ℕ → Member) (r : IsRanked m d kept height who)
+      (links : (a : ℕ) → kept a ≡ true → a ≢ st.at → next_of mem a ≡ next_of m a)
+      (here : kept st.at ≡ true → next_of mem st.at ≡ name_of (link_read st.value))
+      (own_link : next_of mem (begins w.member) ≡ next_of m (begins w.member)) (f n : ℕ) (low : f < 1024)
+      (off : w.removes ≡ false → n ≢ begins w.member) where
+    abbrev past : Option ℕ
+    past = next_name (successor p.members.schedule w.member (frame_of w.member))
+
+    abbrev Keeps : ℕ → Type 0
+    Keeps a = (kept a ≡ true) × (stands_in f (who a) ≡ true)
+
+    -- the member that it links
+    record IsNewly (a : ℕ) : Type 0 where
+      adds : w.removes ≡ false
+      is : a ≡ begins w.member
+      later : (b : ℕ) → past ≡ Some b → Keeps b
+
+    on_by : (a : ℕ) → Keeps a → (b : ℕ) → next_of m a ≡ Some b → Keeps b
+    on_by a on b is = (r.closed a b on.0 is, r.shares a b f low on.0 is on.1)
+
+    own_is : next_of m (begins w.member) ≡ past
+    own_is = own m mem d new p w st k
+
+    past_keeps : Keeps st.at → (b : ℕ) → past ≡ Some b → Keeps b
+    past_keeps on b is = by w.removes refl
+      where
+        by_name : next_of m st.at ≡ Some (begins w.member) → Keeps b
+        by_name leads = on_by (begins w.member) (on_by st.at on (begins w.member) leads) b (own_is ∙ is)
+
+        by_past : next_of m st.at ≡ past → Keeps b
+        by_past leads = on_by st.at on b (leads ∙ is)
+
+        by : (c : Bool) → w.removes ≡ c → Keeps b
+        by false adds = ⊎_elim (λ (one : next_of m st.at ≡ Some (begins w.member)). by_name one)
+            (λ (two : next_of m st.at ≡ past). by_past two) (before_false m mem d new p w st k adds)
+        by true removes = ⊎_elim (λ (two : next_of m st.at ≡ past). by_past two)
+            (λ (one : next_of m st.at ≡ Some (begins w.member)). by_name one) (before_true m mem d new p w st k removes)
+
+    stored_on : Keeps st.at → (b : ℕ) → next_of mem st.at ≡ Some b → Keeps b ⊎ IsNewly b
+    stored_on on b is = by w.removes refl
+      where
+        by : (c : Bool) → w.removes ≡ c → Keeps b ⊎ IsNewly b
+        by false adds =
+            inr (record {
+              adds = adds;
+              is = sym (same_Some (begins w.member) b (sym (here on.0 ∙ value_false m mem d new p w st k adds) ∙ is));
+              later = past_keeps on;
+            })
+        by true removes = inl (past_keeps on b (sym (here on.0 ∙ value_true m mem d new p w st k removes) ∙ is))
+
+    next_on : (a : ℕ) → Keeps a ⊎ IsNewly a → (b : ℕ) → next_of mem a ≡ Some b → Keeps b ⊎ IsNewly b
+    next_on a (inl on) b is =
+        ⊎_elim {C = Keeps b ⊎ IsNewly b} (λ (same : a ≡ st.at).
+        stored_on (subst Keeps same on) b (ap (next_of mem) (sym same) ∙ is))
+        (λ (differs : a ≢ st.at). inl (on_by a on b (sym (links a on.0 differs) ∙ is))) (cases_eq a st.at)
+    next_on a (inr new) b is = inl (new.later b (sym (own_link ∙ own_is) ∙ (ap (next_of mem) (sym new.is) ∙ is)))
+
+    stored_back : Keeps st.at → (c : Bool) → w.removes ≡ c → IsLedTo m n (next_of mem st.at) → IsLedTo m n (next_of m st.at)
+    stored_back on false adds led_there =
+        ⊎_elim (λ (it : n ≡ begins w.member). absurd (off adds it))
+        (λ (more : IsLedTo m n (next_of m (begins w.member))).
+        ⊎_elim (λ (one : next_of m st.at ≡ Some (begins w.member)). subst (IsLedTo m n) (sym one) (leads_on (begins w.member) more))
+        (λ (two : next_of m st.at ≡ past). subst (IsLedTo m n) (own_is ∙ sym two) more) (before_false m mem d new p w st k adds))
+        (way_on m n (begins w.member) (next_of mem st.at) (here on.0 ∙ value_false m mem d new p w st k adds) led_there)
+    stored_back on true removes led_there =
+        let there : IsLedTo m n past = subst (IsLedTo m n) (here on.0 ∙ value_true m mem d new p w st k removes) led_there in
+        ⊎_elim (λ (two : next_of m st.at ≡ past). subst (IsLedTo m n) (sym two) there)
+        (λ (one : next_of m st.at ≡ Some (begins w.member)).
+        subst (IsLedTo m n) (sym one) (leads_on (begins w.member) (subst (IsLedTo m n) (sym own_is) there)))
+        (before_true m mem d new p w st k removes)
+
+    next_back : (a : ℕ) → Keeps a ⊎ IsNewly a → IsLedTo m n (next_of mem a) → IsLedTo m n (next_of m a)
+    next_back a (inl on) led_there =
+        ⊎_elim (λ (same : a ≡ st.at).
+        subst (λ (i : ℕ). IsLedTo m n (next_of m i)) (sym same)
+        (stored_back (subst Keeps same on) w.removes refl (subst (λ (i : ℕ). IsLedTo m n (next_of mem i)) same led_there)))
+        (λ (differs : a ≢ st.at). subst (IsLedTo m n) (links a on.0 differs) led_there) (cases_eq a st.at)
+    next_back a (inr new) led_there =
+        subst (λ (i : ℕ). IsLedTo m n (next_of m i)) (sym new.is)
+        (subst (IsLedTo m n) own_link (subst (λ (i : ℕ). IsLedTo m n (next_of mem i)) new.is led_there))
+
+    back_by : (o : Option ℕ) → ((a : ℕ) → o ≡ Some a → Keeps a ⊎ IsNewly a) → IsLedTo mem n o → IsLedTo m n o
+    back_by _ on is_there = is_there
+    back_by _ on (leads_on a more) =
+        leads_on a (next_back a (on a refl) (back_by (next_of mem a) (λ b is. next_on a (on a refl) b is) more))
+
+    pub way_back : (o : Option ℕ) → ((a : ℕ) → o ≡ Some a → (kept a ≡ true) × (stands_in f (who a) ≡ true)) → IsLedTo mem n o → IsLedTo m n o
+    way_back o on led_there = back_by o (λ a is. inl (on a is)) led_there

@@ -47,7 +47,7 @@ use Rattle.law_world.proofs.lemmas.memory.Driving.{driver_keeps_mixed}
 use Rattle.law_world.proofs.lemmas.memory.lemmas.framed_memory.Now.{now_has_frames}
 use Rattle.law_world.specs.memory.Mixed.{Standing, IsMixedAt, IsMixedWorld}
 use Rattle.law_microframes.specs.visits.Ranks.{name_of}
-use Rattle.law_microframes.specs.visits.Visited.{VisitsGoOn, VisitsGoOnAt}
+use Rattle.law_microframes.specs.visits.Visited.{IsGoneOn, VisitsGoOnAt}
 use Rattle.law_microframes.proofs.lemmas.visits.DriverGoesOn.{IsListSpread, IsMetStill, met_still, standing_is_met, left_is_met, stands_still}
 use Rattle.law_microframes.proofs.lemmas.visits.LeftOwned.{HasName, has_name, slot_there}
 use Rattle.law_microframes.proofs.lemmas.visits.OwnSteps.{same_list}
@@ -124,7 +124,7 @@ module _ (s : Standing) (w : World) (k : IsMixedAt s w) (start : World) (vs : Li
       (sound.owners, (sound.listed, (now_has_frames opening_base n.member n.recent n.descs n.parts n.hand n.frame (controller_parts (driver_next w)) (driver_next w).driver m.mixed.now).spread))
 
   returned : (row : DriverRow) → driver_row (driver_parts w) ≡ row → IsRest (driver_parts w) (after_driver_row row (driver_parts w)) → ((e : ℕ) → w.driver.command ≡ Some (unfinished.Unchain e) → ⊥)
-      → AreRecent (after_driver_row row (driver_parts w)).driver w.registers.frame_index v.visits.left → VisitsGoOn start (driver_next w) vs
+      → AreRecent (after_driver_row row (driver_parts w)).driver w.registers.frame_index v.visits.left → IsGoneOn start w (driver_next w) vs
   returned row is rest stays are =
       let d : DriverContent = w.driver in
       let new : DriverContent = (next_by row).driver in
@@ -142,7 +142,7 @@ module _ (s : Standing) (w : World) (k : IsMixedAt s w) (start : World) (vs : Li
       ap (λ (x : ℕ). name_of (link_read x)) (rest.words h.block n (slot_there new after.0.owner n rest.placed h)))
       (subst (λ (r : RegisterFile). AreRecent new r.frame_index v.visits.left) (sym rest.registers) are)
 
-  pub transfer_visits : (t : ℕ) → driver_row (driver_parts w) ≡ rows.ReleaseTransfer t → VisitsGoOn start (driver_next w) vs
+  pub transfer_visits : (t : ℕ) → driver_row (driver_parts w) ≡ rows.ReleaseTransfer t → IsGoneOn start w (driver_next w) vs
   transfer_visits t is =
       let due : IsDue (driver_parts w) (rows.ReleaseTransfer t) = subst (IsDue (driver_parts w)) is (each_event_is_due (driver_parts w)) in
       let sound = k.now.framed.place.sound in
@@ -163,7 +163,7 @@ module _ (s : Standing) (w : World) (k : IsMixedAt s w) (start : World) (vs : Li
       by (Some x) here =
           endpoint_leaves_recent (driver_parts w) v.visits.left w.registers.frame_index e x k.now.framed.place.sound.owners (row_gives_back_passed (driver_parts w) (removed.Endpoint e) is) here v.visits.left_are
 
-  pub removed_visits : (what : Removed) → driver_row (driver_parts w) ≡ rows.ReleaseRemoved what → VisitsGoOn start (driver_next w) vs
+  pub removed_visits : (what : Removed) → driver_row (driver_parts w) ≡ rows.ReleaseRemoved what → IsGoneOn start w (driver_next w) vs
   removed_visits what is =
       let due : IsDue (driver_parts w) (rows.ReleaseRemoved what) =
       subst (IsDue (driver_parts w)) is (each_event_is_due (driver_parts w)) in
@@ -191,7 +191,7 @@ module _ (s : Standing) (w : World) (k : IsMixedAt s w) (start : World) (vs : Li
         within = r.within;
       })))
 
-  pub endpoint_visits : (e : ℕ) → driver_row (driver_parts w) ≡ rows.ReleaseEndpoint e → VisitsGoOn start (driver_next w) vs
+  pub endpoint_visits : (e : ℕ) → driver_row (driver_parts w) ≡ rows.ReleaseEndpoint e → IsGoneOn start w (driver_next w) vs
   endpoint_visits e is =
       let due : IsEndpointDue (driver_parts w) e = subst (IsDue (driver_parts w)) is (each_event_is_due (driver_parts w)) in
       let sound = k.now.framed.place.sound in

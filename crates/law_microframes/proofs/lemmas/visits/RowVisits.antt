@@ -47,7 +47,7 @@ use Rattle.law_world.proofs.lemmas.memory.lemmas.framed_memory.ChainedLent.{chai
 use Rattle.law_world.proofs.lemmas.memory.lemmas.framed_memory.Now.{now_has_frames}
 use Rattle.law_world.specs.memory.Mixed.{Standing, IsMixedAt}
 use Rattle.claims_world.specs.Visits.{begins}
-use Rattle.law_microframes.specs.visits.Visited.{NewIsFirst, VisitsGoOn, VisitsGoOnAt}
+use Rattle.law_microframes.specs.visits.Visited.{NewIsFirst, IsGoneOn, VisitsGoOnAt}
 use Rattle.law_microframes.proofs.lemmas.visits.DriverGoesOn.{IsListSpread, member_stands}
 use Rattle.law_microframes.proofs.lemmas.visits.LinkSteps.{ListStep, IsMetThere}
 use Rattle.law_microframes.proofs.lemmas.visits.LeftFresh.{queue_fresh}
@@ -171,7 +171,7 @@ module _ (s : Standing) (w : World) (k : IsMixedAt s w) (start : World) (vs : Li
   first_then old =
       subst NewIsFirst (sym list_is) (next_first (removes_members why.command) (record w.driver.periodic { list = after_store w.driver.periodic.list }) (store_first w.driver.periodic.list old))
 
-  pub link_visits : VisitsGoOn start (driver_next w) vs
+  pub link_visits : IsGoneOn start w (driver_next w) vs
   link_visits =
       ⊎_elim
       (λ (on : is_led way.work ≡ true).
@@ -204,17 +204,17 @@ module _ (s : Standing) (w : World) (k : IsMixedAt s w) (left : ℕ → Option K
 
 module _ (s : Standing) (w : World) (k : IsMixedAt s w) (start : World) (vs : List ℕ) (v : VisitsGoOnAt s start w vs) (why : IsLinkOf (driver_parts w) (driver_row (driver_parts w)))
     (e : FramedLinked opening_base s.member s.recent s.descs s.parts s.hand s.frame (controller_parts w) w.driver why.store) where
-  pub described_visits : (f t count : ℕ) → w.driver.command ≡ Some (unfinished.Iso f t count) → VisitsGoOn start (driver_next w) vs
+  pub described_visits : (f t count : ℕ) → w.driver.command ≡ Some (unfinished.Iso f t count) → IsGoneOn start w (driver_next w) vs
   described_visits f t count is =
       link_visits s w k start vs v why e (described_first s w k s.recent k.now.recent_are f t count is)
       (λ x under adds zero. (described_first s w k v.visits.left v.visits.left_are f t count is x under adds zero).fresh)
 
-  pub unchained_visits : (f : ℕ) → w.driver.command ≡ Some (unfinished.Unchain f) → VisitsGoOn start (driver_next w) vs
+  pub unchained_visits : (f : ℕ) → w.driver.command ≡ Some (unfinished.Unchain f) → IsGoneOn start w (driver_next w) vs
   unchained_visits f is =
       link_visits s w k start vs v why e (unchained_first s w k s.recent k.now.recent_are f is)
       (λ x under adds zero. (unchained_first s w k v.visits.left v.visits.left_are f is x under adds zero).fresh)
 
-  pub chained_visits : IsChainLent w.driver s.member s.recent s.parts → VisitsGoOn start (driver_next w) vs
+  pub chained_visits : IsChainLent w.driver s.member s.recent s.parts → IsGoneOn start w (driver_next w) vs
   chained_visits t =
       link_visits s w k start vs v why e (chain_comes_first opening_base s.member s.recent s.descs s.parts s.hand s.frame (controller_parts w) w.driver k.now t) left_fresh
     where

@@ -41,7 +41,7 @@ use Rattle.law_world.proofs.lemmas.memory.lemmas.framed_memory.Now.{now_has_fram
 use Rattle.law_world.proofs.lemmas.memory.lemmas.framed_memory.NowRows.{unlink_keeps_now}
 use Rattle.law_world.specs.memory.Mixed.{Standing, IsMixedAt}
 use Rattle.claims_world.specs.Visits.{begins}
-use Rattle.law_microframes.specs.visits.Visited.{NewIsFirst, VisitsGoOn, VisitsGoOnAt}
+use Rattle.law_microframes.specs.visits.Visited.{NewIsFirst, IsGoneOn, VisitsGoOnAt}
 use Rattle.law_microframes.proofs.lemmas.visits.NewFirst.{store_first, unlinking_first}
 use Rattle.law_microframes.proofs.lemmas.visits.LinkSteps.{ListStep, IsMetThere}
 use Rattle.law_microframes.proofs.lemmas.visits.ListGoesOn.{store_goes_on}
@@ -159,7 +159,7 @@ module _ (s : Standing) (w : World) (k : IsMixedAt s w) (start : World) (vs : Li
   first_then : NewIsFirst w.driver.periodic.list → NewIsFirst (driver_next w).driver.periodic.list
   first_then old = subst NewIsFirst (sym list_is) (store_first (descriptor_leaving w.driver y) (unlinking_first w.driver.periodic.list m old))
 
-  pub unlink_visits : VisitsGoOn start (driver_next w) vs
+  pub unlink_visits : IsGoneOn start w (driver_next w) vs
   unlink_visits =
       store_goes_on s w k start vs v (descriptor_leaving w.driver y) way.work u.event.store step u.event.stored.now u.event.stored.frame_later u.event.stored.stored
       (subst (λ (r : DriverRow). Tells (after_driver_row r (driver_parts w)).memory u.event.stored.now) (sym is) u.event.stored.runs.ring.tells) later left_are

@@ -34,7 +34,8 @@ driver_keeps_visiting start w vs k =
     let s : Standing = k.mixed.standing in
     record {
       mixed = driver_keeps_mixed w k.mixed;
-      visits = each_row_keeps_visiting (driver_row (driver_parts w)) s start w vs k.mixed.mixed (visits_meet_now s start w vs k.mixed.mixed k.visits) refl;
+      visits = (each_row_keeps_visiting (driver_row (driver_parts w)) s start w vs k.mixed.mixed
+          (visits_meet_now s start w vs k.mixed.mixed k.visits) refl).visits;
     }
 
 pub command_keeps_visiting : CommandKeepsVisiting
@@ -42,7 +43,7 @@ command_keeps_visiting start w line cmd vs fits room k =
     let s : Standing = k.mixed.standing in
     record {
       mixed = command_keeps_mixed w line cmd fits room k.mixed;
-      visits = command_leaves_visits s start w line cmd vs room k.mixed.mixed (visits_meet_now s start w vs k.mixed.mixed k.visits);
+      visits = (command_leaves_visits s start w line cmd vs room k.mixed.mixed (visits_meet_now s start w vs k.mixed.mixed k.visits)).visits;
     }
 
 is_kept : (fixed : Fixed) → KeepsCarried (both began_by visits_next) fixed (λ w orders z. NextIsOffered w orders) (λ w z. IsVisiting z.0 w z.1)

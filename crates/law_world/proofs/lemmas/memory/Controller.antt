@@ -166,7 +166,7 @@ module _ (fixed : Fixed) (s : Standing) (w : World) (k : IsMixedAt s w) where
 
     -- ---- the world
 
-    world_then : IsMixedAt (standing_then s w a) (controller_next fixed w)
+    pub world_then : IsMixedAt (standing_then s w a) (controller_next fixed w)
     world_then = record {
       now = a.framed;
       turns = k.turns;
