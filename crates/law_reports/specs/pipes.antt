@@ -1,3 +1,4 @@
+pub mod Begun
 pub mod Declared
 pub mod DescriptorNames
 pub mod Piped

@@ -1,5 +1,5 @@
 -- Each event of the controller leaves the streams so, where isochronous transactions ask none of them.
-use Rattle.std.proofs.Common.{◌≡◌, ℕ, ◌*◌, true, false, List, ◌++◌, slice_get, Some, ap, sym, subst, ◌∙◌}
+use Rattle.std.proofs.Common.{◌≡◌, ℕ, ◌*◌, Bool, true, false, List, ◌++◌, slice_get, Some, ap, refl, sym, subst, ◌∙◌}
 use Rattle.std.specs.Prelude.{◌⊎◌}
 use Rattle.std.specs.List.{concat}
 use Rattle.std.proofs.lemmas.Bool.{true≢false}
@@ -18,11 +18,19 @@ use Rattle.drv_table.specs.DriverContent.{DriverContent}
 use Rattle.law_driver.specs.endpoint_lives.Lives.{may_meet}
 use Rattle.law_driver.specs.queued_drivers.Queued.{queued_endpoint, queued}
 use Rattle.qh_qtd.specs.declared.queue_head.Qh.{Qh}
-use Rattle.law_structures.specs.lent_structures.Structures.{QueueHead}
+use Rattle.law_structures.specs.lent_structures.Structures.{QueueHead, StructureSets}
+use Rattle.law_ring.specs.Hand.{Hand}
+use Rattle.law_frames.specs.FrameHand.{FrameHand}
+use Rattle.op_registers.specs.Events.{next_index}
+use Rattle.hc_core.specs.declared.controller.ControllerRow.{ControllerRow}
+use Rattle.hc_core.specs.declared.controller.ControllerRow.TheVariants as rows
+use Rattle.hc_core.specs.Controller.{HasRow}
+use Rattle.law_controller.specs.controlled_streams.Control.{a_microframe, a_step}
+use Rattle.law_controller.specs.frame_control.Both.{BothEffect, of_ring, of_frame}
 use Rattle.law_ring.specs.Bus.{Sender}
 use Rattle.law_ring.specs.OutBus.{Taker}
 use Rattle.law_controller.specs.controlled_streams.Unopened.{IsUntouched, IsUnopened}
-use Rattle.law_controller.specs.frame_control.Joined.{joined}
+use Rattle.law_controller.specs.frame_control.Joined.{joined, BothStreamEffect, begun, moved}
 use Rattle.law_driver_ring.specs.fed_queues.Places.{IsMet, AreMet}
 use Rattle.law_queues.specs.told_endpoints.Telling.{lines_in}
 use Rattle.law_devices.specs.Senders.{sender_of}
@@ -40,16 +48,21 @@ use Rattle.law_frames.specs.FrameStreams.{IsIsoAsk}
 use Rattle.law_world.specs.steps.Outs.{IsUntaken}
 use Rattle.law_world.specs.steps.Streaming.{begins_by, transacts_by, wired}
 use Rattle.law_world.specs.memory.Mixed.{Standing}
-use Rattle.law_world.specs.memory.Steps.{standing_then, IsMixedControlled}
+use Rattle.law_world.specs.memory.framed_memory.Now.{recent_then, FramedNowAfter}
+use Rattle.law_world.specs.memory.Steps.{standing_then, IsEventOf, IsMixedControlled}
 use Rattle.law_world.specs.memory.pipe_steps.Events.{PipesGoOn}
-use Rattle.law_world.proofs.lemmas.memory.Controller.{controller_tells_event}
+use Rattle.law_world.proofs.lemmas.memory.Controller.{world_then}
+use Rattle.law_world.proofs.lemmas.memory.lemmas.framed_memory.NowControlled.{controller_keeps_now}
+use Rattle.law_world.proofs.lemmas.steps.StreamTurning.{world_has_row}
+use Rattle.law_world.proofs.lemmas.steps.lemmas.world_bytes.Hearing.{a_bus_of_bytes_is_heard_as_bytes}
 use Rattle.law_reports.specs.lines.Lined.{in_hand, Lines}
 use Rattle.law_reports.proofs.lemmas.lines.IsoGoing.{told_apart}
 use Rattle.law_reports.proofs.lemmas.lines.ToldEvents.{controller_keeps_telling}
 use Rattle.law_microframes.specs.visits.WorldPipes.{IsIsoBeside, EventOf}
 use Rattle.law_microframes.proofs.lemmas.visits.AskedHeads.{asked_is_near}
 use Rattle.law_microframes.proofs.lemmas.visits.WorldPipes.{controller_keeps_pipes}
-use Rattle.bus_world.specs.World.{World, controller_parts, controller_next}
+use Rattle.bus_world.specs.World.{World, controller_parts, controller_row, controller_next}
+use Rattle.law_reports.specs.pipes.Begun.{IsOfRow}
 use Rattle.law_reports.specs.pipes.Declared.{Sides}
 use Rattle.law_reports.specs.pipes.Piped.{Heads, asked_as, IsOpening, AreFresh, IsNewHead, HaveNewHeads, HasTakenAtLeast, HasBegun}
 use Rattle.law_reports.specs.pipes.Piped.{AreLeft, IsPiped, IsFollowed}
@@ -76,17 +89,93 @@ module _ (fixed : Fixed) (x : Sides) (s : Standing) (m : Lines) (h : Heads) (w :
   iso : IsIsoBeside s x.sends x.takes
   iso = names_keep_beside x s w k.mixed k.declared k.descriptors
 
-  pub c : IsMixedControlled fixed s w
-  c = controller_tells_event fixed s w k.mixed
+  -- ---- the event, with the row by which a microframe begins
 
-  pub z : EventOf fixed s w c.event
-  z =
+  abbrev Begins : Wired → ℕ → Bool → Wired → Type 0
+  Begins u index allowed v =
+      begins_by u index allowed v × ((index ≡ next_index w.registers.frame_index) × (controller_row w ≡ rows.Begin))
+
+  row_named : (r : ControllerRow) → controller_row w ≡ r
+      → HasRow begins_by transacts_by r (controller_parts w) (wired fixed w) (controller_parts (controller_next fixed w))
+      (wired fixed (controller_next fixed w))
+      → HasRow Begins transacts_by r (controller_parts w) (wired fixed w) (controller_parts (controller_next fixed w))
+      (wired fixed (controller_next fixed w))
+  row_named rows.Begin is row = record { allowed = row.allowed; asked = (row.asked, (refl, is)); contents = row.contents }
+  row_named rows.Idle is row = row
+  row_named rows.Frame is row = row
+  row_named rows.Enter is row = row
+  row_named rows.Go is row = row
+  row_named rows.End is row = row
+
+  named : FramedNowAfter Begins transacts_by opening_base s.member (recent_then (controller_row w) s.recent) s.descs s.parts s.hand s.frame
+      (controller_parts w) w.driver (wired fixed w) (wired fixed (controller_next fixed w)) (controller_parts (controller_next fixed w))
+  named =
+      controller_keeps_now Begins transacts_by opening_base s.member s.recent s.descs s.parts s.hand s.frame (controller_parts w) w.driver
+      (wired fixed w) (controller_parts (controller_next fixed w)) (wired fixed (controller_next fixed w)) k.mixed.now
+      (a_bus_of_bytes_is_heard_as_bytes fixed w k.mixed.bytes (wired fixed (controller_next fixed w)))
+      (row_named (controller_row w) refl (world_has_row fixed w))
+
+  effect_of : {now : StructureSets} {later : Hand} {frame_later : FrameHand}
+      → BothEffect Begins transacts_by (both s.descs s.parts) w.control s.hand s.frame (wired fixed w)
+      (wired fixed (controller_next fixed w)) now later frame_later
+      → BothEffect begins_by transacts_by (both s.descs s.parts) w.control s.hand s.frame (wired fixed w)
+      (wired fixed (controller_next fixed w)) now later frame_later
+  effect_of (of_ring (a_microframe b) nothing) =
+      of_ring (a_microframe (record {
+        index = b.index;
+        allowed = b.allowed;
+        asked = b.asked.0;
+        parts_stay = b.parts_stay;
+        hand_stays = b.hand_stays;
+      })) nothing
+  effect_of (of_ring (a_step r) nothing) = of_ring (a_step r) nothing
+  effect_of (of_frame e) = of_frame e
+
+  its_event : IsEventOf fixed s w
+  its_event = record {
+    now = named.now;
+    later = named.later;
+    frame_later = named.frame_later;
+    effect = effect_of named.effect;
+    framed = named.framed;
+  }
+
+  pub c : IsMixedControlled fixed s w
+  c = record { event = its_event; mixed = world_then fixed s w k.mixed its_event }
+
+  z_named : BothStreamEffect Begins (IsIsoAsk (both s.descs s.parts)) transacts_by s.parts (joined s.hand s.frame) (wired fixed w)
+      (wired fixed (controller_next fixed w)) (parts_now s.descs s.parts named.now) (joined named.later named.frame_later)
+  z_named =
       let f = k.mixed.now.framed in
       let describing : IsDescribing w.driver s.descs s.parts =
       record { owners = f.place.sound.owners; driven = f.driven; described = f.described } in
-      both_streams begins_by transacts_by opening_base s.member (met w.driver s.recent) w.driver s.descs s.parts s.hand s.frame
-      (controller_parts w) (wired fixed w) (wired fixed (controller_next fixed w)) c.event.now c.event.later c.event.frame_later describing
-      f.runs c.event.effect
+      both_streams Begins transacts_by opening_base s.member (met w.driver s.recent) w.driver s.descs s.parts s.hand s.frame
+      (controller_parts w) (wired fixed w) (wired fixed (controller_next fixed w)) named.now named.later named.frame_later describing
+      f.runs named.effect
+
+  stream_of : {now : StructureSets} {later : Hand}
+      → BothStreamEffect Begins (IsIsoAsk (both s.descs s.parts)) transacts_by s.parts (joined s.hand s.frame) (wired fixed w)
+      (wired fixed (controller_next fixed w)) now later
+      → BothStreamEffect begins_by (IsIsoAsk (both s.descs s.parts)) transacts_by s.parts (joined s.hand s.frame) (wired fixed w)
+      (wired fixed (controller_next fixed w)) now later
+  stream_of (begun index allowed asked told) = begun index allowed asked.0 told
+  stream_of (moved y) = moved y
+
+  pub z : EventOf fixed s w c.event
+  unfolding c its_event
+  z = stream_of z_named
+
+  row_of_stream : {now : StructureSets} {later : Hand}
+      → (y : BothStreamEffect Begins (IsIsoAsk (both s.descs s.parts)) transacts_by s.parts (joined s.hand s.frame) (wired fixed w)
+      (wired fixed (controller_next fixed w)) now later) → IsOfRow w (stream_of y)
+  unfolding stream_of
+  row_of_stream (begun index allowed asked told) = asked.1
+  row_of_stream (moved y) = tt
+
+  -- a microframe begins by it in the row of that name alone
+  pub z_row : IsOfRow w z
+  unfolding c its_event z
+  z_row = row_of_stream z_named
 
   pub goes : PipesGoOn x.sends x.takes x.packets sender_of taker_of s.near h.ins h.outs h.ends m.acc z
   goes = controller_keeps_pipes x.sends x.takes x.packets sender_of taker_of h.ins h.outs h.ends m.acc fixed s w

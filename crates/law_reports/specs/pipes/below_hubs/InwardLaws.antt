@@ -1,9 +1,9 @@
 -- Laws of bulk and interrupt IN endpoints below hubs, whatever else is open (EHCI 1.0, 4.6 to 4.12; USB 2.0, 8.6, 11.14, 11.17, 11.24.2).
 --     SparedHubsKeepKeys       a plain transaction takes nothing from a hub that hasn't heard last to clear a buffer or reset a translator
 --     OpensInlet v cmd         an endpoint that the command opens by this name is the one so described
---     WaitsAt w n              the queue head at n waits for complete-splits
---     BeginsFrame fixed w      the next event of the controller begins a frame
---     IsLateBy fixed w timely n     after it the host of the queue head at n isn't in time
+--     WaitsAt fixed x w n      the host of the queue head at n waits for complete-splits
+--     BeginsFrame w            the next event of the controller begins a frame
+--     IsLateBy fixed x w timely n   after it the host of the queue head at n isn't in time
 --     IsStillInward ..         after it the endpoint stands as it must; and it is told who isn't in time any more
 --     IsCompletingLast w h     the walk of the frames comes to the last complete-split of a frame, of the queue head in hand
 --     WorldAsksInTime ..       where it is the inlet's, its host is in time and the result is there
@@ -33,13 +33,12 @@ use Rattle.hub_keys.specs.declared.key.Key.{Key}
 use Rattle.script_types.specs.declared.scripts.Script.{Script}
 use Rattle.script_text.specs.Faults.{Spells}
 use Rattle.endpoint_script.specs.Items.{packets_of}
-use Rattle.bus_wire.specs.Bus.{Fixed, Wired, fixed_of, opening_bus, opening_wired, begin_after}
+use Rattle.bus_wire.specs.Bus.{Fixed, Wired, fixed_of, opening_bus, opening_wired}
 use Rattle.claims_report.specs.Streams.{items_of, IsRightStream}
 use Rattle.claims_world.specs.BelowStreams.{has_hub, BelowInsAreRight, IsSparedBefore}
 use Rattle.claims_world.specs.Streams.{report_of}
-use Rattle.qh_qtd.specs.declared.queue_head.Qh.{Qh}
-use Rattle.mem_queues.specs.Structures.{queue_head_at_address}
-use Rattle.hc_copy.specs.Planning.{host_in}
+use Rattle.op_registers.specs.Events.{next_index}
+use Rattle.hc_core.specs.declared.controller.ControllerRow.TheVariants as rows
 use Rattle.hc_core.specs.declared.controller.MicroframePart.TheVariants.{Periodic}
 use Rattle.hc_interrupt.specs.declared.turns.Turn.TheVariants as turns
 use Rattle.hc_interrupt.specs.Turns.{turn_of, is_last_of}
@@ -57,13 +56,15 @@ use Rattle.law_world.specs.streams.put_laws.HeldPuts.{puts_then}
 use Rattle.law_world.specs.streams.put_laws.TakenPuts.{puts_at}
 use Rattle.law_world.specs.memory.Opens.{OpensMixed}
 use Rattle.bus_world.specs.Budgets.{moment}
-use Rattle.bus_world.specs.World.{World, driver_next, controller_next, commanded}
+use Rattle.law_world.specs.memory.Mixed.{Standing}
+use Rattle.bus_world.specs.World.{World, driver_next, controller_next, controller_row, commanded}
+use Rattle.law_reports.specs.lines.Lined.{in_hand, Lines}
 use Rattle.law_reports.specs.pipes.Declared.{Sides, sides_of}
-use Rattle.law_reports.specs.pipes.Piped.{asked_as}
+use Rattle.law_reports.specs.pipes.Piped.{Heads, asked_as, IsPiped}
 use Rattle.law_reports.specs.pipes.PipedLaws.{OpensDeclared}
 use Rattle.law_reports.specs.pipes.below_hubs.Behind.{Spots}
 use Rattle.law_reports.specs.pipes.below_hubs.BehindLaws.{WorldFindsNoneTold, OpensSpot, hub_of, place_of, spots_of}
-use Rattle.law_reports.specs.pipes.below_hubs.Inward.{Inlet, IsInletBy, Unmoved, IsSpared, is_in_below, is_late_host, HasInward}
+use Rattle.law_reports.specs.pipes.below_hubs.Inward.{Inlet, IsInletBy, Unmoved, IsSpared, is_in_below, may_be_late, HasInward}
 use Rattle.law_microframes.specs.translators.Fresh.{key_started}
 
 abbrev pub SparedHubsKeepKeys : Type 0
@@ -73,30 +74,29 @@ abbrev pub OpensInlet : Inlet → Cmd → Type 0
 OpensInlet v (commands.OpenEp d) = IsInletBy v d d.name.way
 OpensInlet v _ = Unit {0}
 
--- its queue head stands there; it waits for complete-splits, unless a transaction of it is in hand, to be written back
-pub record WaitsAt (w : World) (n : ℕ) : Type 0 where
-  pub queue : Qh
-  pub read : queue_head_at_address w.memory n ≡ Some queue
-  pub waits : w.control.part ≡ Periodic
-      → ((h : HeldQueue) → w.control.frame.hand ≡ Some (hands.Queue h) → h.copy.at ≡ n → h.copy.settled ≡ None)
-      → is_late_host (host_in queue) ≡ true
+-- its host waits for complete-splits, be it in hand or not
+pub record WaitsAt (fixed : Fixed) (x : Sides) (w : World) (n : ℕ) : Type 0 where
+  pub standing : Standing
+  pub lines : Lines
+  pub heads : Heads
+  pub piped : IsPiped fixed x standing lines heads w
+  pub late : may_be_late (in_hand standing) n (standing.parts n n) ≡ true
 
 -- where a frame begins, the translators' pipelines drop all they have (USB 2.0, 11.18)
-pub record BeginsFrame (fixed : Fixed) (w : World) : Type 0 where
-  pub index : ℕ
-  pub first : index % 8 ≡ 0
-  pub begins : wired fixed (controller_next fixed w) ≡ record (wired fixed w) { bus = begin_after fixed index w.bus }
+pub record BeginsFrame (w : World) : Type 0 where
+  pub row : controller_row w ≡ rows.Begin
+  pub first : next_index w.registers.frame_index % 8 ≡ 0
 
 -- a host that isn't in time any more waits as a frame begins; or it wasn't before, and waits
-pub data IsLateBy (fixed : Fixed) (w : World) (timely : ℕ → Bool) (n : ℕ) : Type 0 where
-  now : BeginsFrame fixed w → IsLateBy fixed w timely n
-  before : timely n ≡ false → WaitsAt w n → IsLateBy fixed w timely n
+pub data IsLateBy (fixed : Fixed) (x : Sides) (w : World) (timely : ℕ → Bool) (n : ℕ) : Type 0 where
+  now : BeginsFrame w → IsLateBy fixed x w timely n
+  before : timely n ≡ false → WaitsAt fixed x w n → IsLateBy fixed x w timely n
 
 pub record IsStillInward (fixed : Fixed) (x : Sides) (o : Spots) (v : Inlet) (timely : ℕ → Bool) (puts : ℕ → List ℕ)
     (w : World) : Type 0 where
   pub later : ℕ → Bool
   pub inward : HasInward fixed x o v later puts (controller_next fixed w)
-  pub told : (n : ℕ) → later n ≡ false → IsLateBy fixed w timely n
+  pub told : (n : ℕ) → later n ≡ false → IsLateBy fixed x w timely n
 
 -- the walk of the frames comes to the last complete-split of a frame (4.12.2.4, Do-Complete)
 pub record IsCompletingLast (w : World) (h : HeldQueue) : Type 0 where
@@ -162,8 +162,8 @@ TextsOpenInlets = (text : List ℕ) (s : Script) (x : EpDesc) → Spells text s 
 -- the host of the queue head at n has waited since a frame began, up to moment k, and isn't in time any more
 pub data IsLateSince (s : Script) (n : ℕ) : ℕ → Type 0 where
   begins : (k : ℕ) → (moment s (suc k)).world ≡ controller_next (fixed_of s) (moment s k).world
-      → BeginsFrame (fixed_of s) (moment s k).world → IsLateSince s n (suc k)
-  waits_on : (k : ℕ) → IsLateSince s n k → WaitsAt (moment s k).world n → IsLateSince s n (suc k)
+      → BeginsFrame (moment s k).world → IsLateSince s n (suc k)
+  waits_on : (k : ℕ) → IsLateSince s n k → WaitsAt (fixed_of s) (sides_of s) (moment s k).world n → IsLateSince s n (suc k)
 
 -- where the walk comes to the last complete-split of an interrupt inlet's frame, its start-split came in this frame
 abbrev pub CompletesInTime : Script → Inlet → ℕ → Type 0

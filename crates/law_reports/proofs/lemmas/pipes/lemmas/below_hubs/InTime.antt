@@ -50,10 +50,12 @@ use Rattle.law_world.specs.memory.Steps.{IsEventOf, IsMixedControlled}
 use Rattle.law_microframes.specs.translators.Fresh.{key_started}
 use Rattle.law_microframes.specs.visits.WorldPipes.{EventOf}
 use Rattle.bus_world.specs.World.{World, controller_parts, controller_next}
-use Rattle.law_reports.specs.lines.Lined.{in_hand}
-use Rattle.law_reports.specs.pipes.Piped.{asked_as}
+use Rattle.law_reports.specs.lines.Lined.{in_hand, Lines}
+use Rattle.law_reports.specs.pipes.Begun.{IsOfRow}
+use Rattle.law_reports.specs.pipes.Declared.{Sides}
+use Rattle.law_reports.specs.pipes.Piped.{Heads, asked_as, IsPiped}
 use Rattle.law_reports.specs.pipes.below_hubs.BehindLaws.{WorldFindsNoneTold}
-use Rattle.law_reports.specs.pipes.below_hubs.Inward.{Inlet, is_late_host, may_be_late, renewed, host_waits, is_frame_begun, still_timely}
+use Rattle.law_reports.specs.pipes.below_hubs.Inward.{Inlet, may_be_late, renewed, host_waits, is_frame_begun, still_timely}
 use Rattle.law_reports.specs.pipes.below_hubs.InwardLaws.{WorldAsksInTime, BeginsFrame, WaitsAt, IsLateBy, now, before}
 use Rattle.law_reports.proofs.lemmas.pipes.lemmas.below_hubs.FoundNone.{periodic_by}
 
@@ -236,65 +238,23 @@ kept_off true true c on e = refl
 kept_off true false c on e = absurd (false≢true (sym e))
 kept_off false b c on e = absurd (false≢true on)
 
-module _ (fixed : Fixed) (s : Standing) (w : World) (mixed : IsMixedAt s w) (n : ℕ) where
-  its_parts : (q : Qh) → s.parts n n ≡ Some (QueueHead q) → both s.descs s.parts n ≡ s.parts n
-  its_parts q head =
-      let f = mixed.now.framed in
-      let describing : IsDescribing w.driver s.descs s.parts =
-      record { owners = f.place.sound.owners; driven = f.driven; described = f.described } in
-      both_off s.descs s.parts n (queue_off w.driver s.descs s.parts describing n n (QueueHead q) head)
-
-  abbrev IsUnsettled : Type 0
-  IsUnsettled = (h : HeldQueue) → w.control.frame.hand ≡ Some (hands.Queue h) → h.copy.at ≡ n → h.copy.settled ≡ None
-
-  -- in the periodic part nothing is in hand of the ring
-  its_host : (q : Qh) → IsUnsettled → (f : FrameHand) → w.control.frame.hand ≡ frame_held f → hand_host (joined Empty f) n q ≡ host_in q
-  its_host q un Nothing held = refl
-  its_host q un (OfQueue c made) held = refl
-  its_host q un (OfItd c) held = refl
-  its_host q un (OfSitd c) held = refl
-  its_host q un (OfSettled c z made) held = by (c.at == n) refl
-    where
-      none : Some z.outcome ≡ None → ⊥
-      none e = cc
-
-      by : (b : Bool) → (c.at == n) ≡ b → hand_host (joined Empty (OfSettled c z made)) n q ≡ host_in q
-      by true is = absurd (none (un _ held (eqb-true c.at n is)))
-      by false is = ap (λ (b : Bool). if b then (came z).host else host_in q) is
-
-  waits_at : (q : Qh) → s.parts n n ≡ Some (QueueHead q) → is_late_host (hand_host (in_hand s) n q) ≡ true → WaitsAt w n
-  waits_at q head late = record {
-    queue = q;
-    read = head_read w.memory (both s.descs s.parts) n n q mixed.now.framed.runs.ring.tells
-        (ap (λ (ps : Structures). ps n) (its_parts q head) ∙ head);
-    waits = λ part un.
-        sym (ap is_late_host
-        (ap (λ (hand : Hand). hand_host (joined hand s.frame) n q) (mixed.now.framed.runs.between (λ over. never (sym part ∙ over)))
-        ∙ its_host q un s.frame (mixed.now.framed.runs.walk part).held)) ∙ late;
-  }
-    where
-      never : Periodic ≡ Asynchronous → ⊥
-      never e = cc
-
-  by_part : (o : Option Structure) → s.parts n n ≡ o → may_be_late (in_hand s) n o ≡ true → WaitsAt w n
-  by_part (Some (QueueHead q)) is late = waits_at q is late
-  by_part _ is late = absurd (false≢true late)
-
-  pub late_before : (timely : ℕ → Bool) → renewed s timely n ≡ false → (timely n ≡ false) × WaitsAt w n
+module _ (fixed : Fixed) (x : Sides) (s : Standing) (m : Lines) (h : Heads) (w : World) (k : IsPiped fixed x s m h w) (n : ℕ) where
+  pub late_before : (timely : ℕ → Bool) → renewed s timely n ≡ false → (timely n ≡ false) × WaitsAt fixed x w n
   late_before timely off =
       let parts_of = either_off (timely n) (may_be_late (in_hand s) n (s.parts n n)) off in
-      (parts_of.0, by_part (s.parts n n) refl parts_of.1)
+      (parts_of.0, record { standing = s; lines = m; heads = h; piped = k; late = parts_of.1 })
 
   module _ (a : IsEventOf fixed s w) (timely : ℕ → Bool) where
-    frame_began : (y : EventOf fixed s w a) → is_frame_begun y ≡ true → BeginsFrame fixed w
-    frame_began (begun index allowed asked _) on = record { index = index; first = eqb-true (index % 8) 0 on; begins = asked.1 }
-    frame_began (moved y) on = absurd (false≢true on)
+    frame_began : (y : EventOf fixed s w a) → IsOfRow w y → is_frame_begun y ≡ true → BeginsFrame w
+    frame_began (begun index allowed asked told) of_row on =
+        record { row = of_row.1; first = ap (λ (i : ℕ). i % 8) (sym of_row.0) ∙ eqb-true (index % 8) 0 on }
+    frame_began (moved y) of_row on = absurd (false≢true on)
 
-    pub late_by : (z : EventOf fixed s w a) → still_timely z (renewed s timely) n ≡ false → IsLateBy fixed w timely n
-    late_by z off = by (renewed s timely n) refl
+    pub late_by : (z : EventOf fixed s w a) → IsOfRow w z → still_timely z (renewed s timely) n ≡ false → IsLateBy fixed x w timely n
+    late_by z of_row off = by (renewed s timely n) refl
       where
-        by : (b : Bool) → renewed s timely n ≡ b → IsLateBy fixed w timely n
+        by : (b : Bool) → renewed s timely n ≡ b → IsLateBy fixed x w timely n
         by false is = let was = late_before timely is in before was.0 was.1
         by true is =
-            now (frame_began z
+            now (frame_began z of_row
             (kept_off (renewed s timely n) (is_frame_begun z) (host_waits (in_hand s) n (s.parts n n)) is off))

@@ -16,7 +16,7 @@ use Rattle.law_reports.specs.pipes.below_hubs.Behind.{Spots, IsBehind}
 use Rattle.law_reports.specs.pipes.below_hubs.Inward.{Inlet, renewed, IsInward, HasInward}
 use Rattle.law_reports.specs.pipes.below_hubs.InwardLaws.{ControllerKeepsInward, DriverKeepsInward, CommandKeepsInward}
 use Rattle.law_reports.proofs.lemmas.pipes.Commanded.{commanded_piped}
-use Rattle.law_reports.proofs.lemmas.pipes.Controlled.{c, z, controlled}
+use Rattle.law_reports.proofs.lemmas.pipes.Controlled.{c, z, z_row, controlled}
 use Rattle.law_reports.proofs.lemmas.pipes.Driven.{heads_left, driven}
 use Rattle.law_reports.proofs.lemmas.pipes.Opened.{heads_opened, opened_piped}
 use Rattle.law_reports.proofs.lemmas.pipes.lemmas.below_hubs.BehindCommanded.{commanded_behind}
@@ -72,8 +72,8 @@ controller_keeps_inward fixed x o v timely puts w spared finds asks k = record {
     inward = controlled_inward fixed x o v timely k.standing k.lines k.heads puts w k.piped k.pays k.behind k.inward spared finds asks;
   };
   told = λ n off.
-      late_by fixed k.standing w k.piped.mixed n (c fixed x k.standing k.lines k.heads w k.piped).event timely
-      (z fixed x k.standing k.lines k.heads w k.piped) off;
+      late_by fixed x k.standing k.lines k.heads w k.piped n (c fixed x k.standing k.lines k.heads w k.piped).event timely
+      (z fixed x k.standing k.lines k.heads w k.piped) (z_row fixed x k.standing k.lines k.heads w k.piped) off;
 }
 
 module _ (fixed : Fixed) (x : Sides) (o : Spots) (v : Inlet) (timely : ℕ → Bool) (s : Standing) (m : Lines) (h : Heads)

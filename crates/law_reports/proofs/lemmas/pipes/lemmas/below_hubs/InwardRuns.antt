@@ -141,7 +141,7 @@ module _ (s : Script) (v : Inlet) (k : ℕ) (at : IsInwardAt s v k) where
 
   still_late : (n : ℕ) → renewed at.inward.standing at.timely n ≡ false → IsLateSince s n (suc k)
   still_late n off =
-      let was = late_before (fixed_of s) at.inward.standing w at.inward.piped.mixed n at.timely off in
+      let was = late_before (fixed_of s) (sides_of s) at.inward.standing at.inward.lines at.inward.heads w at.inward.piped n at.timely off in
       waits_on k (at.late n was.0) was.1
 
   -- what the next moment has
@@ -210,7 +210,7 @@ module _ (s : Script) (v : Inlet) (k : ℕ) (at : IsInwardAt s v k) where
               fits = (fit, fits.1);
             }
           where
-            by_late : (n : ℕ) → IsLateBy (fixed_of s) (moment s k).world at.timely n
+            by_late : (n : ℕ) → IsLateBy (fixed_of s) (sides_of s) (moment s k).world at.timely n
                 → (moment s (suc k)).world ≡ controller_next (fixed_of s) (moment s k).world → IsLateSince s n (suc k)
             by_late n (now frame) same = begins k same frame
             by_late n (before off waits) same = waits_on k (at.late n off) waits
