@@ -28,6 +28,7 @@ pub mod AskedSamples
 pub mod CancelledTold
 pub mod CancelLine
 pub mod LeftStays
+pub mod LeftTold
 pub mod Ended
 pub mod Narrowing
 pub mod Missed

@@ -102,3 +102,15 @@ pub mod CancelledMoments
 pub mod CancelLine
 pub mod CancelWaits
 pub mod LeftStays
+pub mod LeftLeaves
+pub mod LeftCommands
+pub mod LeftWas
+pub mod LeftLines
+pub mod LeftMends
+pub mod LeftBegins
+pub mod LeftKept
+pub mod LeftGoes
+pub mod LeftCancels
+pub mod LeftCommanded
+pub mod LeftWorlds
+pub mod LeftWhole

@@ -2,6 +2,8 @@
 ghost use Rattle.claims_report.specs.Controls.{control_of};
 ghost use Rattle.law_reports.specs.requests.CancelLine.{RequestIsCounted, CancelIsBegun, CourseBegins, MetBegins, WaitsAreUnreported};
 ghost use Rattle.law_reports.specs.requests.LeftStays.{StepLeavesTold, EventLeavesTold};
+ghost use Rattle.law_reports.specs.requests.LeftTold.{DriverKeepsCancels, ControllerKeepsCancels, CommandKeepsCancels, TextsHaveCancels};
+ghost use Rattle.law_reports.specs.requests.LeftTold.{TextsTellCancels};
 
 /// Of a request that waits it tells the bytes that were moved of its data, whether the driver read them or not; none of its SETUP and of
 /// its status.
@@ -27,4 +29,18 @@ pub fn those_that_wait_begin()
 pub fn what_is_told_stays()
     ensures driver { StepLeavesTold }
     ensures controller { EventLeavesTold }
+{}
+
+/// Each event and each command leave what is told of the endpoints that left, and, once they were given back, by the line of their cancel.
+pub fn what_left_is_told()
+    ensures driver { DriverKeepsCancels }
+    ensures controller { ControllerKeepsCancels }
+    ensures command { CommandKeepsCancels }
+    ensures texts { TextsHaveCancels }
+{}
+
+/// Of each text, whatever it opens, all lines of a control endpoint at high speed that was cancelled tell of its requests in their order: that
+/// of the cancel tells beginnings of the data of all requests that no line told of, joined.
+pub fn texts_tell_cancels()
+    ensures { TextsTellCancels }
 {}

@@ -289,7 +289,7 @@ module _ (s : Standing) (m : Lines) (w : World) (k : IsMixedAt s w) (g : IsTelli
       refl here in
       none_is_head q (sym none_there ∙ sym (ap (λ (part : Structures). part n) (both_off t.descs t.parts n off)) ∙ here)
 
-  settled : SettlesElsewhere (in_hand s) (32 * x.queue)
+  pub settled : SettlesElsewhere (in_hand s) (32 * x.queue)
   settled =
       subst (λ (h : Hand). SettlesElsewhere (joined h s.frame) (32 * x.queue)) without.hand
       (subst (λ (f : FrameHand). SettlesElsewhere (joined t.hand f) (32 * x.queue)) without.frame

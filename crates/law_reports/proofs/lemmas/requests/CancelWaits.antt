@@ -9,9 +9,11 @@ use Rattle.law_driver_ring.proofs.Common.{one_told}
 use Rattle.claims_base.specs.Prefix.{IsPrefix}
 use Rattle.claims_report.specs.Controls.{control_of}
 use Rattle.claims_report.specs.ControlSides.{Device}
-use Rattle.claims_world.specs.Requests.{numbers_from}
+use Rattle.claims_world.specs.Requests.{numbers_from, numbers_of}
 use Rattle.drv_table.specs.declared.content.Transfer.{Transfer}
-use Rattle.drv_table.specs.DriverContent.{waits_for}
+use Rattle.drv_table.specs.DriverContent.{DriverContent, waits_for}
+use Rattle.law_driver.specs.chained_transfers.Turns.{AreInTurn}
+use Rattle.law_reports.specs.requests.told_requests.Waiting.{waiting}
 use Rattle.law_driver.specs.chained_transfers.Turns.{turn_of}
 use Rattle.law_request.specs.Host.{Endpoint, has_data}
 use Rattle.law_request.specs.Line.{Line}
@@ -159,11 +161,15 @@ module _ (e : ℕ) where
       one_counted k y ys (count_waiting (suc k) ys) (waits_for e y)
       ∙ sym (sum_by-cons (λ (z : Transfer). cond (waits_for e z) 1 0) y ys)
 
-pub waits_are_unreported : WaitsAreUnreported
-waits_are_unreported d asks e name whole v reported waits turns k =
+pub waits_left : (d : DriverContent) (e : ℕ) (reported waits : List ℕ) → AreInTurn d → numbers_of d e ≡ reported ++ waits
+    → length waits ≡ waiting d e → waits ≡ waiting_from e 0 d.transfers
+waits_left d e reported waits turns numbers wait =
     let order : AreInOrder e d.transfers = λ t u y z less at there of also told.
     turns.turns.reported t u (turn_of y) (turn_of z) less (ap (option_map turn_of) at) (ap (option_map turn_of) there)
     (also ∙ sym of) told in
     let w : EndsWaiting e 0 d.transfers = ends e 0 d.transfers order in
-    same_end reported w.before waits (waiting_from e 0 d.transfers) (sym k.numbers ∙ w.are)
-    (k.wait ∙ sym (count_waiting e 0 d.transfers))
+    same_end reported w.before waits (waiting_from e 0 d.transfers) (sym numbers ∙ w.are)
+    (wait ∙ sym (count_waiting e 0 d.transfers))
+
+pub waits_are_unreported : WaitsAreUnreported
+waits_are_unreported d asks e name whole v reported waits turns k = waits_left d e reported waits turns k.numbers k.wait

@@ -41,7 +41,7 @@ use Rattle.law_reports.specs.requests.told_requests.Told.{has_cancel}
 abbrev told : Report → Bool
 told line = not (is_cancel line.what)
 
-none_told : (line : Report) → is_cancel line.what ≡ true → before_cancel (line ∷ []) ≡ []
+pub none_told : (line : Report) → is_cancel line.what ≡ true → before_cancel (line ∷ []) ≡ []
 none_told line is = ap (λ (b : Bool). if not b then line ∷ [] else []) is
 
 -- without one they are all of them

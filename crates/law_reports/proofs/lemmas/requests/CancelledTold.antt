@@ -42,6 +42,8 @@ use Rattle.law_reports.proofs.lemmas.pipes.Across.{row_ends}
 use Rattle.law_reports.specs.requests.Asking.{Sides, has_left, left_with, IsUnheard, IsMetControl}
 use Rattle.law_reports.specs.requests.Footing.{IsFooting}
 use Rattle.law_reports.specs.requests.HighAsking.{told_world, told_standing, told_streams, HasHighAsks}
+use Rattle.law_reports.specs.requests.Telling.{IsUncancelled}
+use Rattle.law_reports.specs.requests.told_requests.Told.{has_cancel}
 use Rattle.law_reports.specs.requests.CancelledTold.{IsToldBefore, CancelledAreTold}
 use Rattle.law_reports.specs.requests.CancelledTold.{DriverKeepsCancelled, ControllerKeepsCancelled}
 use Rattle.law_reports.proofs.lemmas.requests.lemmas.told_requests.Growing.{event_keeps_windows}
@@ -118,7 +120,7 @@ module _ (g : Sides) (fixed : Fixed) (p : Pipes) (v : Windows) (asks : ℕ → R
         (λ (ls : List Report). AreTold (g.whole y.desc.name) w.driver.store (map (window_at asks v) (numbers_of d e)) (before_cancel ls))
         (sym none) tt)
 
-    not_opening : is_opening (queued w.driver) (queued_endpoint x) ≡ false → y.gone ≡ false → d.command ≢ Some (unfinished.Open y.queue)
+    pub not_opening : is_opening (queued w.driver) (queued_endpoint x) ≡ false → y.gone ≡ false → d.command ≢ Some (unfinished.Open y.queue)
     not_opening off kept is =
         false≢true (sym off ∙ ap (λ (c : Option Command). opens c y.queue && not y.gone) is
         ∙ ap (λ (b : Bool). b && not y.gone) (eq-eqb y.queue y.queue refl) ∙ ap not kept)
@@ -156,6 +158,22 @@ module _ (g : Sides) (fixed : Fixed) (p : Pipes) (v : Windows) (asks : ℕ → R
     linked : y.cancelled ≡ false → (b : Bool) → y.linked ≡ b → y.linked ≡ true
     linked stays true is = is
     linked stays false is = absurd (true≢false (sym ((foot.turns.asynchronous.endpoints e y at).unlinked is) ∙ stays))
+
+    -- no line tells of its cancel
+    pub opening_uncancelled : is_opening (queued w.driver) (queued_endpoint x) ≡ true → IsUncancelled x.desc.name w.driver
+    opening_uncancelled opens =
+        subst (λ (n : EpName). IsUncancelled n w.driver) name (ap has_cancel (h.world.untold y.desc.name (unheard opens)))
+
+    pub met_uncancelled : is_opening (queued w.driver) (queued_endpoint x) ≡ false
+        → may_meet (queued w.driver) e (queued_endpoint x) ≡ true → IsUncancelled x.desc.name w.driver
+    met_uncancelled off near =
+        let kept : y.gone ≡ false = held near y.gone refl in
+        subst (λ (n : EpName). IsUncancelled n w.driver) name
+        (h.world.telling e y
+        (record {
+          is = record { here = at; control = asked_so };
+          met = record { there = record { linked = not_opening off kept; kept = kept }; near = near };
+        })).uncancelled
 
     -- ---- each of them
 

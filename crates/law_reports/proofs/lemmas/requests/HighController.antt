@@ -1,6 +1,6 @@
 -- Each event of the controller leaves the requests of control endpoints at high speed as they must stand, in a world with endpoints of
 -- every kind.
-use Rattle.std.proofs.Common.{◌≡◌, ℕ, ◌*◌, subst}
+use Rattle.std.proofs.Common.{◌≡◌, ℕ, ◌*◌, refl, subst}
 use Rattle.bus_wire.specs.Bus.{Fixed}
 use Rattle.drv_table.specs.Words.{head_block, opening_head}
 use Rattle.law_driver.specs.queued_drivers.Queued.{queued}
@@ -20,7 +20,7 @@ use Rattle.law_reports.proofs.lemmas.pipes.Controlled.{c, controlled, lines_then
 use Rattle.law_reports.specs.requests.Asking.{Sides, Asking, AsksIn, HasAsks}
 use Rattle.law_reports.specs.requests.Footing.{IsFooting}
 use Rattle.law_reports.specs.requests.QueueEvents.{courses_after}
-use Rattle.law_reports.specs.requests.HighAsking.{told_world, told_standing, told_streams, AreSuited, AsksHigh, AsksAt}
+use Rattle.law_reports.specs.requests.HighAsking.{told_world, told_standing, told_streams, AreSuited, AsksHigh, AsksAt, HasHighAsks}
 use Rattle.law_reports.specs.requests.HighLaws.{ControllerKeepsHighAsks}
 use Rattle.law_reports.proofs.lemmas.requests.Assembled.{RequestsGoOn, assembled}
 use Rattle.law_reports.proofs.lemmas.requests.HighFooting.{high_footing}
@@ -60,19 +60,32 @@ module _ (g : Sides) (fixed : Fixed) (x : Pipes) (s : Standing) (m : Lines) (h :
   pub controlled_asks : Then
   controlled_asks = asks_by (goes_on (c fixed x s m h w k).event.effect)
 
-pub controller_keeps_high_asks : ControllerKeepsHighAsks
-controller_keeps_high_asks g fixed x v asks w fast z =
+-- with the standing after the event
+pub record IsControlledHigh (g : Sides) (fixed : Fixed) (x : Pipes) (v : Windows) (asks : ℕ → Request) (w : World)
+    (z : HasHighAsks g fixed x v asks w) : Type 0 where
+  pub high : HasHighAsks g fixed x (after_event fixed w v) asks (controller_next fixed w)
+  pub at : high.standing ≡ standing_then z.standing w (c fixed x z.standing z.lines z.heads w z.piped).event
+
+pub controller_goes_on_high : (g : Sides) (fixed : Fixed) (x : Pipes) (v : Windows) (asks : ℕ → Request) (w : World) → AsksHigh g
+    → (z : HasHighAsks g fixed x v asks w) → IsControlledHigh g fixed x v asks w z
+controller_goes_on_high g fixed x v asks w fast z =
     let f : IsFooting z.standing.near (told_streams z.standing) (told_standing z.standing z.lines) (told_world w) =
     high_footing g fixed x z.standing z.lines z.heads w z.piped z.head z.suited in
     let q = controlled_asks g fixed x z.standing z.lines z.heads w z.piped f z.head z.suited fast z.asking v asks z.world in
     record {
-      standing = standing_then z.standing w (c fixed x z.standing z.lines z.heads w z.piped).event;
-      lines = lines_then fixed x z.standing z.lines z.heads w z.piped;
-      heads = z.heads;
-      piped = controlled fixed x z.standing z.lines z.heads w z.piped;
-      head = z.head;
-      suited = z.suited;
-      silent = z.silent;
-      asking = q.asking;
-      world = q.world;
+      high = record {
+        standing = standing_then z.standing w (c fixed x z.standing z.lines z.heads w z.piped).event;
+        lines = lines_then fixed x z.standing z.lines z.heads w z.piped;
+        heads = z.heads;
+        piped = controlled fixed x z.standing z.lines z.heads w z.piped;
+        head = z.head;
+        suited = z.suited;
+        silent = z.silent;
+        asking = q.asking;
+        world = q.world;
+      };
+      at = refl;
     }
+
+pub controller_keeps_high_asks : ControllerKeepsHighAsks
+controller_keeps_high_asks g fixed x v asks w fast z = (controller_goes_on_high g fixed x v asks w fast z).high

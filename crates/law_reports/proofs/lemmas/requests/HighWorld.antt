@@ -19,7 +19,11 @@ use Rattle.drv_table.specs.Words.{head_block}
 use Rattle.law_driver.specs.queued_drivers.Queued.{queued}
 use Rattle.law_driver.proofs.lemmas.queued_drivers.CommandReasons.{reason_of}
 use Rattle.bus_world.specs.World.{World, driver_parts, driver_next, name_in, commanded_by, commanded}
+use Rattle.law_scripts.specs.byte_answers.Bytes.{IsByteCommand}
+use Rattle.drv_table.specs.Offers.{IsOffered}
 use Rattle.law_world.specs.memory.Mixed.{Standing, IsMixedAt}
+use Rattle.law_world.specs.memory.Opens.{OpensMixed}
+use Rattle.law_reports.specs.pipes.PipedLaws.{OpensDeclared}
 use Rattle.law_world.specs.memory.Steps.{IsMixedNext, QueueStep}
 use Rattle.law_world.specs.memory.Steps.{stays, harvests, returns, lends, stores, mends, begins, opens, unlinks, narrows, goes}
 use Rattle.law_world.specs.memory.pipe_steps.Laws.{IsNoOpening}
@@ -29,7 +33,8 @@ use Rattle.law_reports.specs.lines.TellingLaws.{IsTellingNext}
 use Rattle.law_reports.specs.pipes.Declared.{Sides as Pipes}
 use Rattle.law_reports.specs.requests.Asking.{Sides, HasAsks, AsksIn}
 use Rattle.law_reports.specs.requests.Footing.{IsFooting}
-use Rattle.law_reports.specs.requests.HighAsking.{told_world, told_standing, told_streams, IsSuited, AreSuited, SuitsOpened, HasHighAsks}
+use Rattle.law_reports.specs.requests.HighAsking.{told_world, told_standing, told_streams, IsSuited, AreSuited, SuitsOpened, SuitsCommand}
+use Rattle.law_reports.specs.requests.HighAsking.{HasHighAsks}
 use Rattle.law_reports.specs.requests.HighLaws.{DriverKeepsHighAsks, CommandKeepsHighAsks}
 use Rattle.law_reports.proofs.lemmas.lines.Driven.{driver_keeps_telling}
 use Rattle.law_reports.proofs.lemmas.pipes.Accepted.{EndsThen, one_more, one_anew, ends_then}
@@ -84,40 +89,51 @@ module _ (g : Sides) (fixed : Fixed) (x : Pipes) (v : Windows) (asks : ℕ → R
   asks_next t step mixed next =
       driven_asks g fixed x z.standing z.lines z.heads w z.piped foot z.suited z.silent z.asking v asks z.world t step mixed next
 
+  -- with the standing of the step
+  pub record IsHighAt (t : Standing) : Type 0 where
+    pub high : HasHighAsks g fixed x v asks (driver_next w)
+    pub at : high.standing ≡ t
+
   by_other : (t : Standing) (step : QueueStep z.standing w (driver_next w) t) → IsNoOpening step → IsMixedAt t (driver_next w)
-      → IsTellingNext z.standing z.lines w (driver_next w) t step → HasHighAsks g fixed x v asks (driver_next w)
+      → IsTellingNext z.standing z.lines w (driver_next w) t step → IsHighAt t
   by_other t step other mixed next =
       let q = asks_next t step mixed next in
       record {
-        standing = t;
-        lines = next.lines;
-        heads = heads_left fixed x z.standing z.lines z.heads w z.piped t;
-        piped = driven fixed x z.standing z.lines z.heads w z.piped t step other mixed next;
-        head = z.head;
-        suited = suited_event g w z.suited;
-        silent = step_silent z.standing w z.piped.mixed z.silent t step;
-        asking = q.asking;
-        world = q.world;
+        high = record {
+          standing = t;
+          lines = next.lines;
+          heads = heads_left fixed x z.standing z.lines z.heads w z.piped t;
+          piped = driven fixed x z.standing z.lines z.heads w z.piped t step other mixed next;
+          head = z.head;
+          suited = suited_event g w z.suited;
+          silent = step_silent z.standing w z.piped.mixed z.silent t step;
+          asking = q.asking;
+          world = q.world;
+        };
+        at = refl;
       }
 
   by_step : (t : Standing) (step : QueueStep z.standing w (driver_next w) t) → IsMixedAt t (driver_next w)
-      → IsTellingNext z.standing z.lines w (driver_next w) t step → HasHighAsks g fixed x v asks (driver_next w)
+      → IsTellingNext z.standing z.lines w (driver_next w) t step → IsHighAt t
   by_step t (opens at _ alike opened) mixed next =
       let q = asks_next t (opens at t alike opened) mixed next in
       record {
-        standing = t;
-        lines = next.lines;
-        heads = _;
-        piped = opened_piped fixed x z.standing z.lines z.heads w z.piped at t alike opened mixed next;
-        -- its queue head is none that the walk meets
-        head = end_beside fixed x z.standing z.lines z.heads w z.piped at t alike opened mixed next (32 * head_block)
-            (λ same.
-            true≢false (sym z.piped.mixed.queues.queues.met.head ∙ ap z.standing.near same
-            ∙ off fixed x z.standing z.lines z.heads w z.piped at t alike opened mixed next)) ∙ z.head;
-        suited = suited_event g w z.suited;
-        silent = step_silent z.standing w z.piped.mixed z.silent t (opens at t alike opened);
-        asking = q.asking;
-        world = q.world;
+        high = record {
+          standing = t;
+          lines = next.lines;
+          heads = _;
+          piped = opened_piped fixed x z.standing z.lines z.heads w z.piped at t alike opened mixed next;
+          -- its queue head is none that the walk meets
+          head = end_beside fixed x z.standing z.lines z.heads w z.piped at t alike opened mixed next (32 * head_block)
+              (λ same.
+              true≢false (sym z.piped.mixed.queues.queues.met.head ∙ ap z.standing.near same
+              ∙ off fixed x z.standing z.lines z.heads w z.piped at t alike opened mixed next)) ∙ z.head;
+          suited = suited_event g w z.suited;
+          silent = step_silent z.standing w z.piped.mixed z.silent t (opens at t alike opened);
+          asking = q.asking;
+          world = q.world;
+        };
+        at = refl;
       }
   by_step t (stays _ none still) mixed next = by_other t (stays t none still) tt mixed next
   by_step t (harvests e u found due later row out) mixed next = by_other t (harvests e u found due later row out) tt mixed next
@@ -130,30 +146,53 @@ module _ (g : Sides) (fixed : Fixed) (x : Pipes) (v : Windows) (asks : ℕ → R
   by_step t (narrows member near row are fewer) mixed next = by_other t (narrows member near row are fewer) tt mixed next
   by_step t (goes e y d _ back is) mixed next = by_other t (goes e y d t back is) tt mixed next
 
+  -- the step, and the world after it
+  pub record HasHighStep : Type 0 where
+    pub next : IsMixedNext z.standing w (driver_next w)
+    pub after : IsHighAt next.standing
+
+  pub driver_steps_high : HasHighStep
+  driver_steps_high =
+      let n : IsMixedNext z.standing w (driver_next w) = driver_tells_step z.standing w z.piped.mixed in
+      record {
+        next = n;
+        after = by_step n.standing n.step n.mixed
+            (driver_keeps_telling z.standing z.lines w n.standing n.step z.piped.mixed n.mixed z.piped.telling z.piped.going);
+      }
+
 pub driver_keeps_high_asks : DriverKeepsHighAsks
-driver_keeps_high_asks g fixed x v asks w z =
-    let n : IsMixedNext z.standing w (driver_next w) = driver_tells_step z.standing w z.piped.mixed in
-    by_step g fixed x v asks w z n.standing n.step n.mixed
-    (driver_keeps_telling z.standing z.lines w n.standing n.step z.piped.mixed n.mixed z.piped.telling z.piped.going)
+driver_keeps_high_asks g fixed x v asks w z = (driver_steps_high g fixed x v asks w z).after.high
 
 -- ---- a command
 
-pub command_keeps_high_asks : CommandKeepsHighAsks
-command_keeps_high_asks g fixed x v asks w line cmd fits declares suits bytes room z =
+-- the same standing
+pub record IsHighStill (g : Sides) (fixed : Fixed) (x : Pipes) (v : Windows) (asks : ℕ
+    → Request) (new : World) (s : Standing) : Type 0 where
+  pub high : HasHighAsks g fixed x v asks new
+  pub at : high.standing ≡ s
+
+pub command_stays_high : (g : Sides) (fixed : Fixed) (x : Pipes) (v : Windows) (asks : ℕ → Request) (w : World) (line : ℕ) (cmd : Cmd)
+    → OpensMixed cmd → OpensDeclared x cmd → SuitsCommand g cmd → IsByteCommand cmd → IsOffered w.driver.room cmd
+    → (z : HasHighAsks g fixed x v asks w)
+    → IsHighStill g fixed x v (asks_then w.driver cmd asks) (commanded w line cmd) z.standing
+command_stays_high g fixed x v asks w line cmd fits declares suits bytes room z =
     let r = offered w.driver w.memory cmd in
     let q = by_offer g fixed z.standing z.lines w z.piped.mixed (foot g fixed x v asks w z) z.asking v asks z.world line cmd r fits suits
     bytes room refl in
     record {
-      standing = z.standing;
-      lines = z.lines;
-      heads = z.heads;
-      piped = commanded_piped fixed x z.standing z.lines z.heads w z.piped line cmd fits declares room;
-      head = z.head;
-      suited = suited_by r refl;
-      silent = command_silent z.standing w z.piped.mixed z.silent line cmd r refl;
-      asking = q.asking;
-      world = subst (λ (wire : Wired). AsksIn g z.standing.near z.standing.parts z.standing.hand q.asking v (asks_then w.driver cmd asks)
-          (queued (commanded w line cmd).driver) (commanded w line cmd).memory wire) (sym (same_wire r)) q.world;
+      high = record {
+        standing = z.standing;
+        lines = z.lines;
+        heads = z.heads;
+        piped = commanded_piped fixed x z.standing z.lines z.heads w z.piped line cmd fits declares room;
+        head = z.head;
+        suited = suited_by r refl;
+        silent = command_silent z.standing w z.piped.mixed z.silent line cmd r refl;
+        asking = q.asking;
+        world = subst (λ (wire : Wired). AsksIn g z.standing.near z.standing.parts z.standing.hand q.asking v (asks_then w.driver cmd asks)
+            (queued (commanded w line cmd).driver) (commanded w line cmd).memory wire) (sym (same_wire r)) q.world;
+      };
+      at = refl;
     }
   where
     same_wire : (r : Result Offered OfferError) → wired fixed (commanded_by w line (name_in cmd) r) ≡ wired fixed w
@@ -165,3 +204,7 @@ command_keeps_high_asks g fixed x v asks w line cmd fits declares suits bytes ro
     suited_by (Ok o) is =
         suited_then g w.driver o.driver z.suited cmd suits.opened (ends_then w.driver w.memory o cmd (reason_of w.driver w.memory cmd o is))
     suited_by (Err why) is = z.suited
+
+pub command_keeps_high_asks : CommandKeepsHighAsks
+command_keeps_high_asks g fixed x v asks w line cmd fits declares suits bytes room z =
+    (command_stays_high g fixed x v asks w line cmd fits declares suits bytes room z).high

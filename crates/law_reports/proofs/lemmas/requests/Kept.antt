@@ -58,10 +58,11 @@ use Rattle.law_reports.specs.requests.Footing.{IsFooting}
 use Rattle.law_reports.specs.requests.Given.{is_of_device}
 use Rattle.law_reports.specs.requests.HighAsking.{told_world, told_standing, told_streams, IsSuited, HasHighAsks}
 use Rattle.law_reports.specs.requests.HighGiven.{high_sides_of}
-use Rattle.law_reports.specs.requests.Kept.{TextsKeepRequests}
+use Rattle.law_reports.specs.requests.Kept.{TextsKeepRequests, TextsTellRequests, RequestsAreRight}
 use Rattle.law_reports.specs.requests.told_requests.Told.{RequestsAreToldTo}
 use Rattle.law_reports.proofs.lemmas.requests.Footing.{control_zero}
 use Rattle.law_reports.proofs.lemmas.requests.CancelledMoments.{texts_tell_of_cancelled}
+use Rattle.law_reports.proofs.lemmas.requests.LeftWhole.{texts_tell_cancels}
 use Rattle.law_reports.proofs.lemmas.requests.CancelledTold.{each_is_told}
 use Rattle.law_reports.proofs.lemmas.requests.HighFooting.{high_footing}
 use Rattle.law_reports.proofs.lemmas.requests.HighMoments.{texts_have_high_asks}
@@ -266,6 +267,18 @@ module _ (text : List ℕ) (s : Script) (spelled : Spells text s) where
       each_is_told (high_sides_of s) (fixed_of s) (pipes_of s) (windows_at s n) (asks_at s n) (moment s n).world (world_at n) e x
       k.opened.here k.opened.control (is_asked n e x k) (texts_tell_of_cancelled text s spelled n)
 
+  -- .. and with it
+  whole_told : (n e : ℕ) (x : Endpoint) → IsOfDevice s n e x
+      → AreTold (data_of s x.desc.name) (report_at s n).store (windows_then s n e) (lines_of (report_at s n) x.desc.name)
+  whole_told n e x k = by x.cancelled refl
+    where
+      by : (b : Bool) → x.cancelled ≡ b
+          → AreTold (data_of s x.desc.name) (report_at s n).store (windows_then s n e) (lines_of (report_at s n) x.desc.name)
+      by true off = texts_tell_cancels text s spelled n e x k.opened.here k.opened.control (is_asked n e x k) off
+      by false going =
+          lines_tell (high_sides_of s) (fixed_of s) (pipes_of s) (windows_at s n) (asks_at s n) (moment s n).world (world_at n) e x
+          k.opened (is_asked n e x k) going
+
   kept_at : (n e : ℕ) (x : Endpoint) → IsOfDevice s n e x → RequestsAreKept s n e x
   kept_at n e x k =
       let g : Sides = high_sides_of s in
@@ -274,7 +287,7 @@ module _ (text : List ℕ) (s : Script) (spelled : Spells text s) where
       let on = is_asked n e x k in
       record {
         once = all_once g (fixed_of s) (pipes_of s) (windows_at s n) (asks_at s n) w h e x k.opened on;
-        told = lines_tell g (fixed_of s) (pipes_of s) (windows_at s n) (asks_at s n) w h e x k.opened on;
+        told = λ going. whole_told n e x k;
         before = told_before n e x k;
         counted = closing_counts g (fixed_of s) (pipes_of s) (windows_at s n) (asks_at s n) w h e x k.opened on
             (moment_is_seated text s n spelled).apart (windows_few n e x k.opened);
@@ -285,12 +298,18 @@ module _ (text : List ℕ) (s : Script) (spelled : Spells text s) where
   all_at_the_end n e x over k =
       report_numbers s n e x (windows_at s n) (texts_rise text s spelled) over k.opened.here k.opened.control
 
-  right_at_the_end : (n e : ℕ) (x : Endpoint) → (moment s n).orders ≡ [] → IsOfDevice s n e x → x.cancelled ≡ false
+  right_at_the_end : (n e : ℕ) (x : Endpoint) → (moment s n).orders ≡ [] → IsOfDevice s n e x
       → AreRightRequests s (report_at s n) x.desc.name (windows_then s n e)
-  right_at_the_end n e x over k going =
+  right_at_the_end n e x over k =
       let now = kept_at n e x k in
-      record { numbered = all_at_the_end n e x over k; once = now.once; lines_told = now.told going; counted = now.counted }
+      record { numbered = all_at_the_end n e x over k; once = now.once; lines_told = whole_told n e x k; counted = now.counted }
+
+pub texts_tell_requests : TextsTellRequests
+texts_tell_requests text s spelled = whole_told text s spelled
+
+pub requests_are_right : RequestsAreRight
+requests_are_right text s spelled = right_at_the_end text s spelled
 
 pub texts_keep_requests : TextsKeepRequests
 texts_keep_requests text s spelled =
-    record { throughout = kept_at text s spelled; all = all_at_the_end text s spelled; at_the_end = right_at_the_end text s spelled }
+    record { throughout = kept_at text s spelled; all = all_at_the_end text s spelled; at_the_end = λ n e x over k going. right_at_the_end text s spelled n e x over k }

@@ -19,7 +19,7 @@ still_told whole store bytes (line ∷ rest) ws stored told = (
   still_told whole store bytes rest (left_by line.what ws) stored.1 told.1,
 )
 
-told_then : (whole : Request → List ℕ) (store : List ℕ) (lines : List Report) (line : Report) (ws : List Window) → AreTold whole store ws lines → IsTold whole line.what (bytes_of line store) (left_after lines ws)
+pub told_then : (whole : Request → List ℕ) (store : List ℕ) (lines : List Report) (line : Report) (ws : List Window) → AreTold whole store ws lines → IsTold whole line.what (bytes_of line store) (left_after lines ws)
     → AreTold whole store ws (lines ++ line ∷ [])
 told_then whole store [] line ws told last = (last, tt)
 told_then whole store (first ∷ rest) line ws told last = (told.0, told_then whole store rest line (left_by first.what ws) told.1 last)
