@@ -4,9 +4,9 @@
 --                                be used; and no more than 4 microseconds of one went for complete-splits that were made again
 --     IsAnswer n m               the transaction m is that of the queue head at n, in which the host heard something other than NYET
 --     IsNotYet n m               .. in which it heard NYET
---     HasAnswer s i k n          so the queue head at n had an answer in the walk of the frames of a microframe, from moment i on and
+--     WasAnswered s i k n        so the queue head at n had an answer in the walk of the frames of a microframe, from moment i on and
 --                                before moment k
---     CompletesFollow s          where a start-split was due as a microframe began, and the endpoint isn't cancelled: in each later
+--     SplitsFollowInFrame s      where a start-split was due as a microframe began, and the endpoint isn't cancelled: in each later
 --                                microframe of the frame that stands in its C-mask it had an answer before, or a complete-split of it is
 --                                due as that microframe begins
 --     CompletesAreAnswered s     .. and once the walk of the frames is over in that microframe it had an answer, or is to ask again
@@ -55,7 +55,7 @@ pub record IsNotYet (n : ℕ) (m : QueueMade) : Type 0 where
   pub at : m.at ≡ n
   pub told : m.heard ≡ Hand Nyet
 
-pub record HasAnswer (s : Script) (i k n : ℕ) : Type 0 where
+pub record WasAnswered (s : Script) (i k n : ℕ) : Type 0 where
   pub at : ℕ
   pub from : i ≤ at
   pub before : at < k
@@ -63,16 +63,16 @@ pub record HasAnswer (s : Script) (i k n : ℕ) : Type 0 where
 
 -- ---- of a run
 
-abbrev pub CompletesFollow : Script → Type 0
-CompletesFollow s = (i k e q : ℕ) → i ≤ k → (d : IsStartDue (fixed_of s) (begun s i) e q) → IsOneFrame s i k
+abbrev pub SplitsFollowInFrame : Script → Type 0
+SplitsFollowInFrame s = (i k e q : ℕ) → i ≤ k → (d : IsStartDue (fixed_of s) (begun s i) e q) → IsOneFrame s i k
     → IsUncancelled (moment s k).world.driver e → has d.split.placement.cmask (microframe_of (begun s k).control.frame.index) ≡ true
-    → HasAnswer s i k (32 * q) ⊎ IsCompleteDue (fixed_of s) (begun s k) e q
+    → WasAnswered s i k (32 * q) ⊎ IsCompleteDue (fixed_of s) (begun s k) e q
 
 abbrev pub CompletesAreAnswered : Script → Type 0
 CompletesAreAnswered s = (i k e q : ℕ) → i ≤ k → (d : IsStartDue (fixed_of s) (begun s i) e q) → IsOneFrame s i k
     → IsUncancelled (moment s k).world.driver e → has d.split.placement.cmask (microframe_of (begun s k).control.frame.index) ≡ true
     → IsPastFrames (moment s k).world
-    → HasAnswer s i (suc k) (32 * q) ⊎ HasMade (IsNotYet (32 * q)) (queues_made s k)
+    → WasAnswered s i (suc k) (32 * q) ⊎ HasMade (IsNotYet (32 * q)) (queues_made s k)
 
 -- ---- what the device answered
 
@@ -106,6 +106,6 @@ DevicesAreHeard s = (i k e q : ℕ) → i ≤ k → IsPastFrames (moment s i).wo
     → IsPastFrames (moment s k).world → HasTold s i (suc k) (32 * q) d.split.there.endpoint.desc
 
 pub record KeepsSplitFrames (s : Script) : Type 0 where
-  pub follow : CompletesFollow s
+  pub follow : SplitsFollowInFrame s
   pub answered : CompletesAreAnswered s
   pub told : DevicesAreHeard s

@@ -37,7 +37,7 @@ use Rattle.law_microframes.specs.visits.Belonging.{HeadsHaveFields}
 use Rattle.law_microframes.proofs.lemmas.time.SplitMasked.{scripts_keep_allowed}
 use Rattle.law_microframes.proofs.lemmas.translators.FrameIndex.{HasFrameIndex}
 use Rattle.law_microframes.proofs.lemmas.visits.BelongReads.{HasReadFields, read_fields}
-use Rattle.claims_world.specs.SplitFrames.{IsOneFrame, IsAnswer, IsNotYet, HasAnswer, CompletesFollow, CompletesAreAnswered}
+use Rattle.claims_world.specs.SplitFrames.{IsOneFrame, IsAnswer, IsNotYet, WasAnswered, SplitsFollowInFrame, CompletesAreAnswered}
 use Rattle.law_reports.specs.pipes.Declared.{sides_of}
 use Rattle.law_reports.proofs.lemmas.due_at_begin.Aside.{its_words}
 use Rattle.law_reports.proofs.lemmas.due_at_begin.BegunMoments.{so_as_begun, BeginsNow, begun_then}
@@ -429,27 +429,27 @@ module _ (text : List ℕ) (s : Script) (spelled : Spells text s) where
 abbrev Heard : Script → ℕ → ℕ → Type 0
 Heard s n k = HasMade (IsAnswer n) (queues_made s k)
 
-pub completes_follow : (text : List ℕ) (s : Script) → Spells text s → CompletesFollow s
+pub completes_follow : (text : List ℕ) (s : Script) → Spells text s → SplitsFollowInFrame s
 completes_follow text s spelled i k e q less d one off bit =
     by (follows text s spelled i e q d (Heard s (32 * q)) k bit
     (told text s spelled (Heard s (32 * q)) i e q k d
     (λ j from under one off past c bit. completes_go_on text s spelled j e q past (one.few j from (omega arith)) c off) k less (omega arith) one
     off).story)
   where
-    by : Follows text s spelled i e q d (Heard s (32 * q)) k → HasAnswer s i k (32 * q) ⊎ IsCompleteDue (fixed_of s) (begun s k) e q
+    by : Follows text s spelled i e q d (Heard s (32 * q)) k → WasAnswered s i k (32 * q) ⊎ IsCompleteDue (fixed_of s) (begun s k) e q
     by (had_answer at from before a) = inl (record { at = at; from = from; before = before; made = a })
     by (is_due x) = inr (its_complete text s spelled i e q d k less one bit x)
 
 answered_by : (s : Script) (i k n : ℕ) (v : Qh) (f : ℕ) → i ≤ k → GoesOn (Heard s n k) v n f (queues_made s k)
-    → HasAnswer s i (suc k) n ⊎ HasMade (IsNotYet n) (queues_made s k)
+    → WasAnswered s i (suc k) n ⊎ HasMade (IsNotYet n) (queues_made s k)
 answered_by s i k n v f less (is_answered a) = inl (record { at = k; from = less; before = omega arith; made = a })
 answered_by s i k n v f less (was_last last a) = inr a
 answered_by s i k n v f less (is_left z left a progress tag) = inr a
 
 pub completes_are_answered : (text : List ℕ) (s : Script) → Spells text s → CompletesAreAnswered s
 completes_are_answered text s spelled i k e q less d one off bit past =
-    ⊎_elim {C = HasAnswer s i (suc k) (32 * q) ⊎ HasMade (IsNotYet (32 * q)) (queues_made s k)}
-    (λ (a : HasAnswer s i k (32 * q)).
+    ⊎_elim {C = WasAnswered s i (suc k) (32 * q) ⊎ HasMade (IsNotYet (32 * q)) (queues_made s k)}
+    (λ (a : WasAnswered s i k (32 * q)).
     let before = a.before in inl (record { at = a.at; from = a.from; before = omega (arith, before); made = a.made }))
     (λ (c : IsCompleteDue (fixed_of s) (begun s k) e q).
     answered_by s i k (32 * q) c.split.queue (begun s k).control.frame.index less
