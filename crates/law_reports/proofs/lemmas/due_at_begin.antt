@@ -29,6 +29,7 @@ pub mod SplitTurns
 pub mod SplitHeads
 pub mod SplitStages
 pub mod SplitMoments
+pub mod SplitRuns
 pub mod SplitDue
 pub mod PipelinesLeft
 pub mod HubSeats

@@ -48,7 +48,7 @@ use Rattle.law_reports.proofs.lemmas.due_at_begin.FrameIndex.{next_in_frame}
 use Rattle.law_reports.proofs.lemmas.due_at_begin.HubSeats.{hubs_are_zero}
 use Rattle.law_reports.proofs.lemmas.due_at_begin.InFrames.{IsStillIn, driver_in_frames, command_in_frames}
 use Rattle.law_reports.proofs.lemmas.due_at_begin.Moments.{IsKnown, known_at}
-use Rattle.law_reports.proofs.lemmas.due_at_begin.SplitMoments.{are_known}
+use Rattle.law_reports.proofs.lemmas.due_at_begin.SplitRuns.{are_known}
 use Rattle.law_reports.proofs.lemmas.due_at_begin.WrittenMoments.{part_then}
 
 -- ---- once the walk of the frames is over

@@ -29,7 +29,8 @@ use Rattle.law_microframes.specs.visits.Belonging.{HeadsHaveFields}
 use Rattle.claims_world.specs.SplitFrames.{IsAnswer, IsNotYet}
 use Rattle.law_reports.proofs.lemmas.due_at_begin.Answered.{complete_of, is_complete}
 use Rattle.law_reports.proofs.lemmas.due_at_begin.SplitDue.{Anything, Leaves, complete_due, complete_leaves}
-use Rattle.law_reports.proofs.lemmas.due_at_begin.SplitMoments.{IsDueOf, splits_are_made}
+use Rattle.law_reports.proofs.lemmas.due_at_begin.SplitMoments.{IsDueOf}
+use Rattle.law_reports.proofs.lemmas.due_at_begin.SplitRuns.{splits_are_made}
 use Rattle.law_reports.proofs.lemmas.due_at_begin.SplitStages.{reply_to}
 use Rattle.law_reports.proofs.lemmas.due_at_begin.SplitTurns.{IsWaitingSplit, waiting_split}
 use Rattle.law_reports.proofs.lemmas.due_at_begin.WrittenMoments.{LeavesWaiting}

@@ -60,7 +60,8 @@ use Rattle.law_reports.proofs.lemmas.due_at_begin.LastDue.{last_answers_are_ther
 use Rattle.law_reports.proofs.lemmas.due_at_begin.PipelinesLeft.{AreHubsZero}
 use Rattle.law_reports.proofs.lemmas.due_at_begin.SplitDue.{waiting_head, largest, complete_due}
 use Rattle.law_reports.proofs.lemmas.due_at_begin.SplitHeads.{IsHeadOf}
-use Rattle.law_reports.proofs.lemmas.due_at_begin.SplitMoments.{IsDueOf, splits_are_made}
+use Rattle.law_reports.proofs.lemmas.due_at_begin.SplitMoments.{IsDueOf}
+use Rattle.law_reports.proofs.lemmas.due_at_begin.SplitRuns.{splits_are_made}
 use Rattle.law_reports.proofs.lemmas.due_at_begin.SplitStages.{reply_to}
 use Rattle.law_reports.proofs.lemmas.due_at_begin.SplitTurns.{IsAsDue, IsWaitingSplit, made_as_due}
 

@@ -35,7 +35,8 @@ use Rattle.law_reports.proofs.lemmas.due_at_begin.SplitStages.{reply_to}
 use Rattle.law_reports.proofs.lemmas.due_at_begin.SplitTurns.{IsAsDue, itself_as_due, waits_same, missed_same, made_as_due}
 use Rattle.law_reports.proofs.lemmas.due_at_begin.SplitTurns.{IsWaitingSplit, waiting_split, start_comes}
 use Rattle.law_reports.proofs.lemmas.due_at_begin.SplitTurns.{complete_comes, start_made, complete_made}
-use Rattle.law_reports.proofs.lemmas.due_at_begin.SplitMoments.{IsDueOf, splits_are_made}
+use Rattle.law_reports.proofs.lemmas.due_at_begin.SplitMoments.{IsDueOf}
+use Rattle.law_reports.proofs.lemmas.due_at_begin.SplitRuns.{splits_are_made}
 
 -- ---- what is due comes so
 

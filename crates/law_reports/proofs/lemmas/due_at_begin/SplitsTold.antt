@@ -57,7 +57,8 @@ use Rattle.law_reports.proofs.lemmas.due_at_begin.ResultDue.{answer_beside, hear
 use Rattle.law_reports.proofs.lemmas.due_at_begin.SplitDue.{complete_due}
 use Rattle.law_reports.proofs.lemmas.due_at_begin.SplitFrames.{Follows, had_answer, is_due, follows, its_complete, told, order_begun}
 use Rattle.law_reports.proofs.lemmas.due_at_begin.SplitFrames.{completes_follow, completes_are_answered}
-use Rattle.law_reports.proofs.lemmas.due_at_begin.SplitMoments.{IsDueOf, splits_are_made}
+use Rattle.law_reports.proofs.lemmas.due_at_begin.SplitMoments.{IsDueOf}
+use Rattle.law_reports.proofs.lemmas.due_at_begin.SplitRuns.{splits_are_made}
 use Rattle.law_reports.proofs.lemmas.due_at_begin.SplitOrder.{StartsFirst}
 use Rattle.law_reports.proofs.lemmas.due_at_begin.WrittenMoments.{IsSince, since_at}
 

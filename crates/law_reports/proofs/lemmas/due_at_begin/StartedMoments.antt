@@ -19,7 +19,7 @@ use Rattle.claims_world.specs.Visits.{IsPastFrames, frame_in}
 use Rattle.claims_world.specs.WithinLoad.{repeats}
 use Rattle.law_reports.specs.due_at_begin.SplitsFollow.{IsOutOfHand, StartsWait}
 use Rattle.law_reports.proofs.lemmas.due_at_begin.SplitDue.{Anything, IsStartedWaiting, start_waits_due}
-use Rattle.law_reports.proofs.lemmas.due_at_begin.SplitMoments.{splits_are_made}
+use Rattle.law_reports.proofs.lemmas.due_at_begin.SplitRuns.{splits_are_made}
 use Rattle.law_reports.proofs.lemmas.due_at_begin.WrittenMoments.{LeavesWaiting, since_at}
 
 -- ---- the start-split that was made
