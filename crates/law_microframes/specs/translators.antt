@@ -7,3 +7,4 @@ pub mod Turns
 pub mod Told
 pub mod Results
 pub mod Fresh
+pub mod Rooms

@@ -37,4 +37,5 @@ pub mod TurnsRuns
 pub mod TurnsTexts
 pub mod LastCompletes
 pub mod ToldByLast
+pub mod Rooms
 pub mod Fresh

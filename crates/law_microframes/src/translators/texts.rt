@@ -1,6 +1,7 @@
 //! The same of each script that a text spells: each start-split follows its plan.
 ghost use Rattle.law_microframes.specs.translators.Laws.{PartsComeInTurn, TextsKeepTranslators, TextsHaveFewStuffedBits, InterruptsFollow, SitdsFollowToo};
 ghost use Rattle.law_microframes.specs.translators.Fresh.{StartsFindNoneWorked};
+ghost use Rattle.law_microframes.specs.translators.Rooms.{TextsHaveRoom};
 ghost use Rattle.law_microframes.specs.translators.Told.{LastCompletesAreLate, TextsTellByLast};
 
 /// Each start-split of a queue head is one that the plan of its translator calls for, and its endpoint isn't given back in the frame.
@@ -39,4 +40,9 @@ pub fn answers_are_there_for_the_last_complete()
 /// One start-split of an interrupt endpoint comes in a frame: it finds no entry of its key of which something is worked.
 pub fn starts_find_none_worked()
     ensures { StartsFindNoneWorked }
+{}
+
+/// No key has two entries in a pipeline, and there are fewer than 256: so no start-split that makes an entry is forgotten.
+pub fn pipelines_have_room()
+    ensures { TextsHaveRoom }
 {}

@@ -1,5 +1,5 @@
 //! Worked rows: what meets the premises, and what breaks each.
-ghost use Rattle.std.specs.Prelude.{◌≡◌, ℕ, List, [], None, Some};
+ghost use Rattle.std.specs.Prelude.{◌≡◌, ◌++◌, ℕ, List, [], None, Some};
 ghost use Rattle.usb_base.specs.declared.packets.DataPart.TheVariants.{Middle};
 ghost use Rattle.drv_chains.specs.declared.boundary.Boundary.TheVariants.{Since, Seen};
 ghost use Rattle.tt_pipeline.specs.Worked.{iso_out};
@@ -12,6 +12,7 @@ ghost use Rattle.claims_world.specs.HubPlans.{plans_now};
 ghost use Rattle.law_microframes.specs.translators.Parts.{EachOf, Lacks, IsEven};
 ghost use Rattle.hc_iso.specs.declared.held.SplitOutcome.TheVariants.{Moved};
 ghost use Rattle.bus_world.specs.World.{World};
+ghost use Rattle.law_microframes.specs.translators.Rooms.{HasRoom};
 ghost use Rattle.law_microframes.specs.translators.Told.{IsLastIn};
 ghost use Rattle.law_microframes.specs.translators.Turns.{EntriesAre, IsUnasked, OutsGoOn};
 ghost use Rattle.law_microframes.specs.translators.Samples.{speaking, speaker_sitd, camera_start, camera_key, leaving, speaker_key, begun, gone_on, ended, spoken, stuffed_bits};
@@ -77,4 +78,10 @@ pub fn a_last_complete()
     ensures last { IsLastIn 28 4 }
     ensures later { IsLastIn 28 3 → ⊥ }
     ensures none { IsLastIn 28 5 → ⊥ }
+{}
+
+/// The pipeline with the speaker's entry has room; with two entries of its key it would not.
+pub fn a_pipeline_has_room()
+    ensures room { HasRoom speaker_key begun }
+    ensures twice { HasRoom speaker_key (begun ++ begun) → ⊥ }
 {}
