@@ -138,7 +138,7 @@ fn parts(
 }
 
 /// The rows.
-pub(crate) fn all() -> [Case; 14] {
+pub(crate) fn all() -> [Case; 15] {
     [
         // The start-split in microframe 8, NYET in 10, the data in 11.
         split(
@@ -188,6 +188,13 @@ pub(crate) fn all() -> [Case; 14] {
             SPLIT_IN,
             &[8, 10, 11, 12],
             &[Silent, Data(Mdata, 188), Data(Data0, 12)],
+        ),
+        // Microframe 0 of the next frame is in the S-mask, but it waits for its complete-splits: no start-split goes out.
+        parts(
+            "split iso in, not ended in its frame",
+            SPLIT_IN,
+            &[8, 16],
+            &[Silent],
         ),
         parts(
             "split iso in, error",
