@@ -17,25 +17,39 @@
 --     HasTold s i k n x          in a complete-split from moment i on and before moment k the host heard what the device answered
 --     DevicesAreHeard s          where a start-split was due as a microframe began, and has come once the walk of the frames is over in it,
 --                                so it is by the end of the walk of the frames in the last microframe of its C-mask in the frame
+--     IsHeardFromBegin s i k x   so its hub and its packets are from moment i to moment k, and its hub in the whole microframe of moment i
+--     IsDoneBy b n x ms          of the transactions ms of the microframe that began with the world b, in one of the queue head at n the
+--                                host heard what the device answered; and where that is data with the queue head's toggle for which it has
+--                                room, or the acknowledgement of what it sent, these bytes moved, and it was written back so
+--     WasDone s i k n x          so it is in a microframe, from moment i on and before moment k
+--     StartsAreDone s            where a start-split was due as a microframe began, and neither it nor a complete-split of it nor its
+--                                answer is lost: so it is by the end of the walk of the frames in the last microframe of its C-mask in the
+--                                frame, unless the endpoint is cancelled
 --     KeepsSplitFrames s         all of this
-use Rattle.std.specs.Prelude.{◌≡◌, ◌≢◌, ℕ, suc, ◌/◌, ◌*◌, ◌≤◌, ◌<◌, ◌⊎◌, true, false, Some}
+use Rattle.std.specs.Prelude.{◌≡◌, ◌≢◌, ℕ, suc, ◌/◌, ◌*◌, ◌≤◌, ◌<◌, ◌⊎◌, true, false, List, Some}
 use Rattle.std.specs.List.{find}
 use Rattle.usb_base.specs.declared.endpoints.EpDesc.{EpDesc}
 use Rattle.usb_base.specs.declared.packets.EpKind.TheVariants.{Interrupt}
 use Rattle.usb_base.specs.declared.packets.Pid.TheVariants.{Nyet}
+use Rattle.usb_base.specs.declared.packets.Reply.{Reply}
 use Rattle.usb_base.specs.declared.packets.Reply.TheVariants.{Hand}
 use Rattle.script_types.specs.declared.scripts.Script.{Script}
 use Rattle.bandwidth.specs.Placements.{has}
+use Rattle.qh_qtd.specs.declared.queue_head.Qh.{Qh}
+use Rattle.mem_queues.specs.Structures.{queue_head_at_address}
 use Rattle.hc_interrupt.specs.Turns.{microframe_of}
 use Rattle.tt_pipeline.specs.declared.entry.Entry.{Entry}
+use Rattle.tt_pipeline.specs.declared.entry.Exchange.TheVariants.{Made}
+use Rattle.tt_pipeline.specs.Answers.{result_of}
 use Rattle.tt_pipeline.specs.Starting.{has_key}
 use Rattle.bus_wire.specs.Bus.{Bus, fixed_of}
 use Rattle.bus_world.specs.Budgets.{moment}
+use Rattle.bus_world.specs.World.{World}
 use Rattle.claims_world.specs.Behind.{key_for, pipeline_for}
 use Rattle.claims_world.specs.BelowStreams.{IsSparedAt}
 use Rattle.claims_world.specs.DueAtBegin.{begun, IsUncancelled}
 use Rattle.claims_world.specs.QueuesMade.{QueueMade, queues_made, HasMade}
-use Rattle.claims_world.specs.Results.{IsNextHeard, IsLastIn, IsToldBy}
+use Rattle.claims_world.specs.Results.{IsNextHeard, IsLastIn, IsToldBy, MovesBy, IsTaken}
 use Rattle.claims_world.specs.SplitsAtBegin.{IsStartDue, IsCompleteDue}
 use Rattle.claims_world.specs.Visits.{IsPastFrames, is_held_now}
 use Rattle.claims_world.specs.WithinLoad.{repeats}
@@ -105,7 +119,35 @@ DevicesAreHeard s = (i k e q : ℕ) → i ≤ k → IsPastFrames (moment s i).wo
     → IsUncancelled (moment s k).world.driver e → IsLastIn d.split.placement.cmask (microframe_of (begun s k).control.frame.index)
     → IsPastFrames (moment s k).world → HasTold s i (suc k) (32 * q) d.split.there.endpoint.desc
 
+-- ---- from the Begin of the start-split on
+
+pub record IsHeardFromBegin (s : Script) (i k : ℕ) (x : EpDesc) : Type 0 where
+  pub begins : (j : ℕ) → begun s j ≡ begun s i → IsSparedAt s x j
+  pub through : IsHeardThroughout s i k x
+
+pub record IsDoneBy (b : World) (n : ℕ) (x : EpDesc) (ms : List QueueMade) : Type 0 where
+  pub entry : Entry
+  pub is : IsEntryOf b.bus x entry
+  pub told : HasMade (IsToldBy n entry) ms
+  pub queue : Qh
+  pub read : queue_head_at_address b.memory n ≡ Some queue
+  pub taken : (reply : Reply) (bytes : ℕ) → entry.exchange ≡ Made reply → MovesBy queue x.name.way (result_of reply) bytes
+      → HasMade (IsTaken queue n bytes) ms
+
+pub record WasDone (s : Script) (i k n : ℕ) (x : EpDesc) : Type 0 where
+  pub at : ℕ
+  pub from : i ≤ at
+  pub before : at < k
+  pub done : IsDoneBy (begun s at) n x (queues_made s at)
+
+abbrev pub StartsAreDone : Script → Type 0
+StartsAreDone s = (i k e q : ℕ) → i ≤ k → (d : IsStartDue (fixed_of s) (begun s i) e q) → IsOneFrame s i k
+    → IsHeardFromBegin s i k d.split.there.endpoint.desc → IsUncancelled (moment s k).world.driver e
+    → IsLastIn d.split.placement.cmask (microframe_of (begun s k).control.frame.index) → IsPastFrames (moment s k).world
+    → WasDone s i (suc k) (32 * q) d.split.there.endpoint.desc
+
 pub record KeepsSplitFrames (s : Script) : Type 0 where
   pub follow : SplitsFollowInFrame s
   pub answered : CompletesAreAnswered s
   pub told : DevicesAreHeard s
+  pub done : StartsAreDone s

@@ -28,6 +28,7 @@ pub mod Unfinished
 pub mod SplitTurns
 pub mod SplitHeads
 pub mod SplitStages
+pub mod Rooms
 pub mod SplitMoments
 pub mod SplitRuns
 pub mod SplitDue
@@ -56,5 +57,8 @@ pub mod EntryStages
 pub mod EntryKept
 pub mod EntryEvents
 pub mod EntryFrames
+pub mod StartEnters
+pub mod StartCame
 pub mod SplitsTold
+pub mod SplitsDone
 pub mod SplitFrameSampled

@@ -6,7 +6,7 @@ ghost use Rattle.claims_world.specs.QueuesMade.{HasMade};
 ghost use Rattle.claims_world.specs.Results.{IsToldBy};
 ghost use Rattle.law_world.specs.memory.Samples.{keyboard};
 ghost use Rattle.law_microframes.specs.due.repeats.Samples.{waiting, pressed};
-ghost use Rattle.claims_world.specs.SplitFrames.{IsAnswer, IsNotYet, IsEntryOf, HasCome};
+ghost use Rattle.claims_world.specs.SplitFrames.{IsAnswer, IsNotYet, IsEntryOf, HasCome, IsDoneBy};
 ghost use Rattle.law_reports.specs.due_at_begin.SplitSamples.{starting, started_in, made_in, its_queue};
 
 /// Once the walk of the frames is over in microframe 0 the keyboard's start-split has come to its translator; before it was made it hadn't.
@@ -22,4 +22,10 @@ pub fn a_device_is_heard()
     ensures told { (e : Entry) → IsEntryOf (started_in pressed 1).bus keyboard e → HasMade (IsToldBy its_queue e) (made_in pressed 4) }
     ensures answer { HasMade (IsAnswer its_queue) (made_in pressed 4) }
     ensures nyet { HasMade (IsNotYet its_queue) (made_in waiting 4) }
+{}
+
+/// So its transaction is done in microframe 2, once it is written back, and not before.
+pub fn a_split_is_done()
+    ensures done { IsDoneBy (started_in pressed 1) its_queue keyboard (made_in pressed 4) }
+    ensures not_yet { IsDoneBy (started_in pressed 1) its_queue keyboard (made_in pressed 3) → ⊥ }
 {}

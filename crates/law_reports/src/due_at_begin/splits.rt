@@ -24,8 +24,8 @@ pub fn texts_follow_starts()
 {}
 
 /// After a start-split that was due as its microframe began, each microframe of the C-mask in the same frame begins with a complete-split due,
-/// until one is answered otherwise than NYET, unless the endpoint is cancelled, where the bus may be used in each microframe. Where the
-/// start-split came to the translator, and no complete-split nor its answer is lost, the host heard by the last what the device said.
+/// until one is answered otherwise than NYET, unless the endpoint is cancelled, where the bus may be used in each microframe. Where neither
+/// the start-split nor a complete-split nor its answer is lost, the host heard by the last what the device said, and took it if it fits.
 pub fn texts_keep_split_frames()
     ensures { TextsKeepSplitFrames }
 {}

@@ -128,17 +128,17 @@ heard_all (replies.Hand pid) false false false lost s u = refl
 heard_all (replies.Hand pid) false true acked lost s u = absurd cc
 heard_all answer true unheard acked lost s u = absurd cc
 
-same_token : (way : Way) → token_by way ≡ token_of_way way
+pub same_token : (way : Way) → token_by way ≡ token_of_way way
 same_token ways.In = refl
 same_token ways.Out = refl
 same_token ways.Ctl = refl
 
-its_token : (way : Way) → way ≢ ways.Ctl → token_kind (pid_at (pid_of (dir_of way))) ≡ token_of_way way
+pub its_token : (way : Way) → way ≢ ways.Ctl → token_kind (pid_at (pid_of (dir_of way))) ≡ token_of_way way
 its_token ways.In one = refl
 its_token ways.Out one = refl
 its_token ways.Ctl one = absurd (one refl)
 
-its_direction : (way : Way) → direction_of (pid_at (pid_of (dir_of way))) ≡ dir_of way
+pub its_direction : (way : Way) → direction_of (pid_at (pid_of (dir_of way))) ≡ dir_of way
 its_direction ways.In = refl
 its_direction ways.Out = refl
 its_direction ways.Ctl = refl

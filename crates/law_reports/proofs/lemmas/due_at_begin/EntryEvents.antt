@@ -202,6 +202,29 @@ module _ (fixed : Fixed) (x : Sides) (s : Standing) (l : Lines) (h : Heads) (w :
     own_smask : g.copy.queue_head.smask ≡ p.smask
     own_smask = by_hand s.frame refl (walk fixed x s l h w k heads sends row).in_hand
 
+  -- ---- while another endpoint's structure is in hand
+
+  module _ (zeroes : AreHubsZero fixed) (named : AreNamed w.driver) (m hub port : ℕ) (spared : AreSpared hub w.bus.hubs) where
+    abbrev its_key : Key
+    its_key = key_for i.endpoint.desc
+
+    abbrev ItsEntry : Bus → Type 0
+    ItsEntry b = HasStaged m (key_for i.endpoint.desc) (pipeline_for b.hubs hub port)
+
+    by_goes : BusGoes fixed w e (controller_next fixed w).bus → ItsEntry w.bus → ItsEntry (controller_next fixed w).bus
+    by_goes (is_quiet bus) had = subst ItsEntry (sym bus) had
+    by_goes (is_asked ask out other bus) had =
+        subst ItsEntry (sym bus)
+        (asks_stage m its_key fixed w.bus ask out
+        (λ a place part is piped. other_key fixed zeroes x s l h w k named e i.endpoint i.here i.kind Silent ask other) hub port spared had)
+
+    pub apart_stage : ((a : ℕ) → held_address w.control.frame.hand ≡ Some a → 32 * q ≢ a)
+        → HasStaged m (key_for i.endpoint.desc) (pipeline_for w.bus.hubs hub port)
+        → HasStaged m (key_for i.endpoint.desc) (pipeline_for (controller_next fixed w).bus.hubs hub port)
+    apart_stage apart had =
+        by_goes (bus_goes fixed x s l h w k heads sends row e i.endpoint i.here i.kind
+        (λ a is same. apart a is (ap (λ (b : ℕ). 32 * b) (sym i.queue) ∙ same))) had
+
   -- ---- in a microframe that isn't in its S-mask
 
   module _ (zeroes : AreHubsZero fixed) (named : AreNamed w.driver) (unstarted : has p.smask (microframe_of w.control.frame.index) ≡ false)
@@ -235,26 +258,14 @@ module _ (fixed : Fixed) (x : Sides) (s : Standing) (l : Lines) (h : Heads) (w :
         queue_none g in_hand (same_Some g.copy.at (32 * q) (ap held_address (sym in_hand) ∙ own)))
         (λ g in_hand. sitd_none g)
 
-    by_goes : BusGoes fixed w e (controller_next fixed w).bus → Its w.bus → Its (controller_next fixed w).bus
-    by_goes (is_quiet bus) had = subst Its (sym bus) had
-    by_goes (is_asked ask out other bus) had =
-        subst Its (sym bus)
-        (asks_stage m key fixed w.bus ask out
-        (λ a place part is piped. other_key fixed zeroes x s l h w k named e i.endpoint i.here i.kind Silent ask other) hub port spared had)
-
-    apart_stage : ((a : ℕ) → held_address w.control.frame.hand ≡ Some a → 32 * q ≢ a) → Its w.bus → Its (controller_next fixed w).bus
-    apart_stage apart had =
-        by_goes (bus_goes fixed x s l h w k heads sends row e i.endpoint i.here i.kind
-        (λ a is same. apart a is (ap (λ (b : ℕ). 32 * b) (sym i.queue) ∙ same))) had
-
     by_address : (o : Option ℕ) → held_address w.control.frame.hand ≡ o → Its w.bus → Its (controller_next fixed w).bus
-    by_address None is had = apart_stage (λ a there. absurd (none_some a (sym is ∙ there))) had
+    by_address None is had = apart_stage zeroes named m hub port spared (λ a there. absurd (none_some a (sym is ∙ there))) had
     by_address (Some a) is had =
         ⊎_elim {C = Its (controller_next fixed w).bus}
         (λ (own : a ≡ 32 * q).
         walk_of_frames_stage m key fixed hub port w spared row (own_none (is ∙ ap Some own)) had)
         (λ (off : a ≢ 32 * q).
-        apart_stage (λ c there same. off (same_Some a c (sym is ∙ there) ∙ sym same)) had)
+        apart_stage zeroes named m hub port spared (λ c there same. off (same_Some a c (sym is ∙ there) ∙ sym same)) had)
         (cases_eq a (32 * q))
 
     pub frame_stage : HasStaged m (key_for i.endpoint.desc) (pipeline_for w.bus.hubs hub port)

@@ -88,10 +88,10 @@ made_by e (Made reply) is result = record {
 
 -- ---- at a moment
 
-record IsThere (fixed : Fixed) (w : World) (e q : ℕ) (d : IsLastDue fixed w e q) : Type 0 where
-  reply : Reply
-  made : d.entry.exchange ≡ Made reply
-  answer : complete_answer (key_for d.complete.split.there.endpoint.desc)
+pub record IsThere (fixed : Fixed) (w : World) (e q : ℕ) (d : IsLastDue fixed w e q) : Type 0 where
+  pub reply : Reply
+  pub made : d.entry.exchange ≡ Made reply
+  pub answer : complete_answer (key_for d.complete.split.there.endpoint.desc)
       (pipeline_for w.bus.hubs d.has.hub d.complete.split.there.endpoint.desc.port) ≡ result_of reply
 
 module _ (text : List ℕ) (s : Script) (spelled : Spells text s) (k e q : ℕ) (d : IsLastDue (fixed_of s) (moment s k).world e q) where
@@ -195,11 +195,15 @@ module _ (text : List ℕ) (s : Script) (spelled : Spells text s) (k e q : ℕ) 
 
 -- ---- the law
 
+pub last_is_begun : (text : List ℕ) (s : Script) → Spells text s → (k e q : ℕ) (d : IsLastDue (fixed_of s) (begun s k) e q)
+    → IsThere (fixed_of s) (begun s k) e q d
+last_is_begun text s spelled k e q d =
+    so_as_begun (λ (w : World). (n b : ℕ) (due : IsLastDue (fixed_of s) w n b) → IsThere (fixed_of s) w n b due) s
+    (λ n b due. let none = due.complete.split.there.here in cc) (λ j n b due. last_is_there text s spelled j n b due) k e q d
+
 pub last_answers_are_there : (text : List ℕ) (s : Script) → Spells text s → AnswersAreHeard s → LastAnswersAreThere s
 last_answers_are_there text s spelled heard k e q past few d off =
-    let there : IsThere (fixed_of s) (begun s k) e q d =
-    so_as_begun (λ (w : World). (n b : ℕ) (due : IsLastDue (fixed_of s) w n b) → IsThere (fixed_of s) w n b due) s
-    (λ n b due. let none = due.complete.split.there.here in cc) (λ j n b due. last_is_there text s spelled j n b due) k e q d in
+    let there : IsThere (fixed_of s) (begun s k) e q d = last_is_begun text s spelled k e q d in
     told (queues_made s k) there
     (heard k e q past few
     (record {

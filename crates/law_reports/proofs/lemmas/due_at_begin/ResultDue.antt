@@ -241,7 +241,7 @@ answers_are_heard text s spelled k e q past few d off =
     (subst (λ (u : EpDesc). HasAnswer (fixed_of s) w.bus u due.reply) (sym same) had)))
     (λ x y due. cc due.complete.split.there.here) k e q past few d off
 
-results_are_taken : (text : List ℕ) (s : Script) → Spells text s → ResultsAreTaken s
+pub results_are_taken : (text : List ℕ) (s : Script) → Spells text s → ResultsAreTaken s
 results_are_taken text s spelled k e q past few d off =
     splits_are_made text s spelled (IsResultDue (fixed_of s)) (λ b x y due. due.due.complete.split.there.endpoint.desc)
     (λ b x y due c. HasAnswer (fixed_of s) c due.due.complete.split.there.endpoint.desc due.due.reply)

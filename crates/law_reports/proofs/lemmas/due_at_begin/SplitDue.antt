@@ -68,6 +68,11 @@ pub record IsStartedWaiting (n f : ℕ) (m : QueueMade) : Type 0 where
   pub started : IsStarted n f m
   pub wait : m.outcome ≡ Wait
 
+-- its start-split comes next
+pub record IsUnsplit (q : Qh) : Type 0 where
+  pub low : (q.eps == 2) ≡ false
+  pub unsplit : q.token.split_state ≡ false
+
 start_waits : (q : Qh) (out : List ℕ) (last : Bool) (reply : Reply) → (q.eps == 2) ≡ false → q.token.split_state ≡ false
     → outcome_in (planned q) out last reply ≡ Wait
 start_waits q out last reply low unsplit =
@@ -162,6 +167,34 @@ module _ (fixed : Fixed) (b : World) (k : IsMixedWorld b) (heads : HeadsHaveFiel
         };
         bus = tt;
       }
+
+  -- .. where B holds of the bus
+  pub start_on : (d : IsStartDue fixed b e q) (B : Bus → Type 0) → B b.bus
+      → (i : IsDueOf fixed b e q d.split.there.endpoint.desc B (IsStartedWaiting (32 * q) b.control.frame.index)) × IsUnsplit i.queue
+  unfolding start_due start_waits_due
+  start_on d B bus =
+      let c : HasComeTo d.split.queue d.works = has_come_to b.memory d.split.queue d.works d.next in
+      let n = start_waits_due d in (
+        record {
+          placement = n.placement;
+          there = n.there;
+          desc = n.desc;
+          low = n.low;
+          active = n.active;
+          free = n.free;
+          queue = n.queue;
+          overlay = n.overlay;
+          work = n.work;
+          bit = n.bit;
+          due = record {
+            work = n.due.work;
+            turn = n.due.turn;
+            leaves = λ z same head on hears has out last is. n.due.leaves z same head on hears tt out last is;
+          };
+          bus = bus;
+        },
+        record { low = ap (λ (i : ℕ). i == 2) c.eps ∙ low d.split; unsplit = d.unsplit },
+      )
 
   -- a complete-split, where B holds of the bus, and P then of what it leaves
   module _ (d : IsCompleteDue fixed b e q) (B : Bus → Type 0) (P : QueueMade → Type 0) (bus : B b.bus) where

@@ -1,10 +1,16 @@
 -- The keyboard's start-split in its translator, and what is heard in its first complete-split.
-use Rattle.std.proofs.Common.{◌≡◌, ℕ, Option, Some, None, ap, refl, sym, subst, inl, ◌∙◌}
+use Rattle.std.proofs.Common.{◌≡◌, ℕ, List, [], length, Option, Some, None, ap, refl, sym, subst, inl, ◌∙◌}
 use Rattle.std.specs.List.{find}
 use Rattle.std.proofs.lemmas.Option.{same_Some}
 use Rattle.usb_base.specs.declared.packets.Pid.TheVariants as pids
+use Rattle.usb_base.specs.declared.packets.Reply.{Reply}
 use Rattle.usb_base.specs.declared.packets.Reply.TheVariants as replies
+use Rattle.usb_base.specs.declared.packets.Way.{Way}
+use Rattle.usb_base.specs.declared.packets.Way.TheVariants as ways
 use Rattle.tt_pipeline.specs.declared.entry.Entry.{Entry}
+use Rattle.tt_pipeline.specs.declared.entry.Exchange.{Exchange}
+use Rattle.tt_pipeline.specs.declared.entry.Exchange.TheVariants.{Made}
+use Rattle.tt_pipeline.specs.Answers.{result_of}
 use Rattle.tt_pipeline.specs.Starting.{has_key}
 use Rattle.word_mem.specs.Memory.{filled}
 use Rattle.word_mem.specs.Views.{words_in, with_words_in}
@@ -13,6 +19,7 @@ use Rattle.link_words.specs.Links.{link_word, qtd_link_word, link_read, qtd_link
 use Rattle.link_words.specs.Layout.{first_bad_bit}
 use Rattle.drv_chains.specs.Chains.{word_after, before_the, behind_the, predecessors}
 use Rattle.drv_chains.specs.Order.{frames}
+use Rattle.qh_qtd.specs.declared.queue_head.Qh.{Qh}
 use Rattle.qh_qtd.specs.Token.{token_word, token_at}
 use Rattle.qh_qtd.specs.Qtd.{qtd_words, qtd_read, qtd_bad, qtd_at}
 use Rattle.qh_qtd.specs.QueueHead.{qh_words, qh_read, qh_bad, qh_at}
@@ -26,11 +33,12 @@ use Rattle.bus_world.specs.Orders.{ticks}
 use Rattle.claims_world.specs.Behind.{key_for, pipeline_for}
 use Rattle.claims_world.specs.Carried.{carried_from}
 use Rattle.claims_world.specs.QueuesMade.{HasMade}
-use Rattle.claims_world.specs.Results.{IsToldBy}
+use Rattle.claims_world.specs.Results.{IsToldBy, MovesBy, by_data, by_ack, IsTaken}
 use Rattle.law_world.specs.memory.Samples.{keyboard}
 use Rattle.law_microframes.specs.due.repeats.Samples.{waiting, pressed}
-use Rattle.claims_world.specs.SplitFrames.{IsAnswer, IsNotYet, IsEntryOf, HasCome}
-use Rattle.law_reports.specs.due_at_begin.SplitSamples.{starting, started_in, made_in, its_queue, eight_bytes}
+use Rattle.claims_world.specs.SplitFrames.{IsAnswer, IsNotYet, IsEntryOf, HasCome, IsDoneBy}
+use Rattle.law_reports.specs.due_at_begin.SplitSamples.{starting, started_in, made_in, its_queue, eight_bytes, its_head}
+use Rattle.law_reports.proofs.lemmas.due_at_begin.ResultSampled.{result_is_taken, result_isnt_taken}
 
 -- ---- the start-split comes
 
@@ -97,3 +105,47 @@ unfolding ticks carried_from lowest_run filled with_words_in store_words lend_ru
     first_bad_bit words_in advanced lacks with_split settled_queue moved missed_queue written_back raised overlay_after
     stored put_bytes put_byte places words_from all_reached reached
 nyet_is_heard = inl (record { at = refl; told = refl })
+
+-- ---- it is done
+
+abbrev bytes_in : Reply → List ℕ
+bytes_in (replies.Bytes pid bytes) = bytes
+bytes_in _ = []
+
+in_moves : (q : Qh) (way : Way) (r : Reply) (n : ℕ) → MovesBy q way r n → way ≡ ways.In → length (bytes_in r) ≡ n
+in_moves q _ _ _ (by_data bytes short) is = refl
+in_moves q _ _ _ by_ack is = absurd (cc is)
+
+made_is : (a r : Reply) → ◌≡◌ {A = Exchange} (Made a) (Made r) → a ≡ r
+made_is a r is = cc
+
+eight_moved : (q : Qh) (r : Reply) (n : ℕ) → ◌≡◌ {A = Exchange} (Made (replies.Bytes pids.Data0 eight_bytes)) (Made r)
+    → MovesBy q ways.In (result_of r) n → 8 ≡ n
+eight_moved q r n is moves =
+    ap (λ (x : Reply). length (bytes_in (result_of x))) (made_is (replies.Bytes pids.Data0 eight_bytes) r is)
+    ∙ in_moves q ways.In (result_of r) n moves refl
+
+abbrev Taken : ℕ → Type 0
+Taken n = HasMade (IsTaken (its_head (started_in pressed 1)) its_queue n) (made_in pressed 4)
+
+pub split_is_done : IsDoneBy (started_in pressed 1) its_queue keyboard (made_in pressed 4)
+unfolding ticks carried_from lowest_run filled with_words_in store_words lend_runs qh_words qtd_words token_word token_at link_word
+    qtd_link_word
+    predecessors frames word_after before_the behind_the link_read qtd_link_read qh_read qh_bad qh_at qtd_read qtd_bad qtd_at
+    first_bad_bit words_in advanced lacks with_split settled_queue moved missed_queue written_back raised overlay_after
+    stored put_bytes put_byte places words_from all_reached reached
+split_is_done = record {
+  entry = _;
+  is = record { hub = 9; behind = refl; there = refl };
+  told = inl (record { reply = replies.Bytes pids.Data0 eight_bytes; made = refl; answered = record { at = refl; heard = refl } });
+  queue = its_head (started_in pressed 1);
+  read = refl;
+  taken = λ reply bytes made moves.
+      subst Taken (eight_moved (its_head (started_in pressed 1)) reply bytes made moves) result_is_taken;
+}
+
+none_made : (n : ℕ) (e : Entry) → HasMade (IsToldBy n e) [] → ⊥
+none_made n e was = was
+
+pub split_isnt_done : IsDoneBy (started_in pressed 1) its_queue keyboard (made_in pressed 3) → ⊥
+split_isnt_done d = none_made its_queue d.entry (subst (HasMade (IsToldBy its_queue d.entry)) result_isnt_taken d.told)

@@ -384,7 +384,8 @@ module _ (text : List ℕ) (s : Script) (spelled : Spells text s) where
     abbrev its_place : Placement
     its_place = d.split.placement
 
-    no_bit_yet : (k : ℕ) → begun s k ≡ begun s i → has d.split.placement.cmask (microframe_of (begun s k).control.frame.index) ≡ true → ⊥
+    pub no_bit_yet : (k : ℕ) → begun s k ≡ begun s i
+        → has d.split.placement.cmask (microframe_of (begun s k).control.frame.index) ≡ true → ⊥
     no_bit_yet k same bit =
         let f : ℕ = (begun s i).control.frame.index in
         let bit_then : has its_place.cmask (microframe_of f) ≡ true =

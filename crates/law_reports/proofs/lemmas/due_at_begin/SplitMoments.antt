@@ -1,5 +1,7 @@
--- Each event and each command leaves what was due of an interrupt endpoint below a hub as the microframe began in its stage, until it is done.
-use Rattle.std.proofs.Common.{◌≡◌, ◌≢◌, ℕ, zero, suc, ◌*◌, ◌≤◌, Bool, true, false, List, [], ◌∷◌, Option, Some, None, ap, refl, sym, subst, ◌∙◌}
+-- Each event and each command leaves what was due of an interrupt endpoint below a hub as the microframe began in its stage, until it is
+-- done.
+use Rattle.std.proofs.Common.{◌≡◌, ◌≢◌, ℕ, zero, suc, ◌*◌, ◌≤◌, Bool, true, false, List, [], ◌∷◌, Option, Some, None, ap, refl, sym}
+use Rattle.std.proofs.Common.{subst, ◌∙◌}
 use Rattle.std.proofs.Common.{slice_get, ⊎_elim, arith}
 use Rattle.law_microframes.proofs.Common.{in_list, repeats_less, frame_row}
 use Rattle.usb_base.specs.declared.commands.Cmd.{Cmd}
@@ -10,17 +12,19 @@ use Rattle.qh_qtd.specs.declared.queue_head.Qh.{Qh}
 use Rattle.bandwidth.specs.declared.placements.Placement.{Placement}
 use Rattle.bandwidth.specs.Sums.{is_active}
 use Rattle.hc_masks.specs.Masks.{has}
+use Rattle.drv_periodic_table.specs.Periodic.{is_periodic, dir_of}
 use Rattle.drv_table.specs.declared.content.Endpoint.{Endpoint}
 use Rattle.drv_table.specs.Words.{is_high}
 use Rattle.hc_interrupt.specs.declared.turns.Turn.TheVariants as turns
 use Rattle.hc_interrupt.specs.Turns.{microframe_of, turn_of}
 use Rattle.periodic_walk.specs.declared.state.Hand.TheVariants as hands
+use Rattle.periodic_walk.specs.declared.state.HeldQueue.{HeldQueue}
 use Rattle.periodic_walk.specs.Walk.{held_address}
 use Rattle.hc_core.specs.declared.controller.ControllerRow.{ControllerRow}
 use Rattle.hc_core.specs.declared.controller.ControllerRow.TheVariants as rows
+use Rattle.hc_core.specs.declared.controller.MicroframePart.TheVariants.{Periodic}
 use Rattle.hc_core.specs.Controller.{Control}
 use Rattle.bus_wire.specs.Bus.{Bus, Fixed, is_held as may_not_be_used}
-use Rattle.bus_world.specs.Budgets.{moment}
 use Rattle.bus_world.specs.Orders.{Left, Events, Microframes, Answer, Command, Plugs, tick_at}
 use Rattle.bus_world.specs.World.{World, controller_parts, controller_row, controller_next, driver_next, commanded, kind_next}
 use Rattle.claims_world.specs.Carried.{carried_in}
@@ -28,20 +32,22 @@ use Rattle.claims_world.specs.Coming.{IsInItsFrames}
 use Rattle.claims_world.specs.DueAtBegin.{IsUncancelled}
 use Rattle.claims_world.specs.InTime.{IsInTime}
 use Rattle.claims_world.specs.Owners.{LeavesControllers, is_controllers, KeepsToOwners}
-use Rattle.claims_world.specs.QueuesMade.{QueueMade, made_as, made_at, made_after, made_next}
+use Rattle.claims_world.specs.QueuesMade.{QueueMade, made_as, made_at, made_after, made_next, HasMade}
 use Rattle.claims_world.specs.SoFar.{SoFar, nothing_yet, so_far_after, so_far_next}
-use Rattle.claims_world.specs.Visits.{began_at, began_by, began, frame_in, is_held_now}
+use Rattle.claims_world.specs.Visits.{began_at, began_by, frame_in, is_held_now}
 use Rattle.claims_world.specs.WithinLoad.{repeats_at, repeats_after, repeats_next}
 use Rattle.law_world.specs.steps.Streaming.{begins_by, transacts_by, wired}
 use Rattle.law_world.specs.memory.Mixed.{Standing, IsMixedWorld}
 use Rattle.law_world.specs.streams.Left.{AreNamed}
 use Rattle.law_world.proofs.lemmas.steps.StreamTurning.{world_has_row}
 use Rattle.law_microframes.specs.due.repeats.Hearing.{is_control_way, IsHeardOn}
-use Rattle.law_microframes.specs.time.DataQueues.{QueuesSendData}
-use Rattle.law_microframes.specs.visits.Belonging.{HeadsHaveFields}
+use Rattle.law_microframes.specs.time.DataQueues.{pid_of, way_of, GoesBy, QueuesSendData}
+use Rattle.law_microframes.specs.visits.Belonging.{HeadsHaveFields, a_queue}
 use Rattle.law_microframes.proofs.lemmas.due.Aside.{IsAside, goes_still}
 use Rattle.law_microframes.proofs.lemmas.due.lemmas.repeats.AskedHeads.{no_control}
 use Rattle.law_microframes.proofs.lemmas.time.DataControlled.{controller_keeps_data}
+use Rattle.law_microframes.proofs.lemmas.time.DataHeads.{mixed_worlds_read_data}
+use Rattle.law_microframes.proofs.lemmas.visits.BelongQueues.{alive, belongs_by}
 use Rattle.law_microframes.proofs.lemmas.visits.NoneLeftWalking.{index_stays}
 use Rattle.law_microframes.proofs.lemmas.visits.ReasonParts.{command_control, command_bus}
 use Rattle.law_reports.specs.lines.Lined.{Lines}
@@ -53,11 +59,13 @@ use Rattle.law_reports.proofs.lemmas.due_at_begin.Asking.{BusGoes}
 use Rattle.law_reports.proofs.lemmas.due_at_begin.InFrames.{IsStillIn, driver_uncancelled, driver_in_frames, command_uncancelled}
 use Rattle.law_reports.proofs.lemmas.due_at_begin.InFrames.{command_in_frames}
 use Rattle.law_reports.proofs.lemmas.due_at_begin.Moments.{IsKnown}
-use Rattle.law_reports.proofs.lemmas.due_at_begin.SplitStages.{IsTransactionDue, IsSplitHeld, IsSplitTold, SplitStage, is_ahead}
+use Rattle.law_reports.proofs.lemmas.due_at_begin.SplitStages.{IsTransactionDue, HaveRoom, Brings, IsSplitHeld, IsSplitTold, SplitStage}
+use Rattle.law_reports.proofs.lemmas.due_at_begin.SplitStages.{is_ahead}
 use Rattle.law_reports.proofs.lemmas.due_at_begin.SplitStages.{is_held, is_told, is_done, more_made, split_held, split_written, split_ahead}
 use Rattle.law_reports.proofs.lemmas.due_at_begin.SplitHeads.{AreSized}
 use Rattle.law_reports.proofs.lemmas.due_at_begin.SplitTurns.{take_turn}
 use Rattle.law_reports.proofs.lemmas.due_at_begin.Stages.{past_frames, begins_walk}
+use Rattle.law_reports.proofs.lemmas.due_at_begin.Written.{written_bus}
 
 -- ---- due of an endpoint as a microframe begins
 
@@ -77,7 +85,7 @@ pub record IsDueOf (fixed : Fixed) (b : World) (e q : ℕ) (x : EpDesc) (B : Bus
 
 -- ---- what is carried: of what was due as the microframe of the world b began, in the world w of the same microframe
 
-pub record IsSplitWaiting (fixed : Fixed) (b w : World) (t : SoFar) (ms : List QueueMade) (e q : ℕ) (x : EpDesc) (B : Bus → Type 0)
+pub record IsSplitWaiting (fixed : Fixed) (b w : World) (t : SoFar) (ms : List QueueMade) (e q : ℕ) (x : EpDesc) (B A : Bus → Type 0)
     (P : QueueMade → Type 0) : Type 0 where
   pub placement : Placement
   pub was : IsInItsFrames b.driver e q placement
@@ -88,7 +96,8 @@ pub record IsSplitWaiting (fixed : Fixed) (b w : World) (t : SoFar) (ms : List Q
   pub index : w.control.frame.index ≡ b.control.frame.index
   pub queue : Qh
   pub due : IsTransactionDue fixed x B b.control.frame.index (32 * q) queue P
-  pub stage : SplitStage fixed x B w t ms q b.control.frame.index placement queue P
+  pub brings : Brings fixed x B A queue
+  pub stage : SplitStage fixed x B A w t ms q b.control.frame.index placement queue P
 
 -- what is known of the endpoints of a moment beside `IsKnown`
 pub record AreKnown (fixed : Fixed) (w : World) : Type 0 where
@@ -96,21 +105,28 @@ pub record AreKnown (fixed : Fixed) (w : World) : Type 0 where
   pub sized : AreSized w.driver
   pub hears : (e : ℕ) (y : Endpoint) → slice_get w.driver.endpoints e ≡ Some y → is_high y.desc.speed ≡ false
       → is_control_way y.desc.name.way ≡ false → IsHeardOn fixed w.bus y.desc
+  pub room : HaveRoom w.bus
 
 -- .. of all that is due so
 module _ (D : World → ℕ → ℕ → Type 0) (X : (b : World) (e q : ℕ) → D b e q → EpDesc)
-    (B : (b : World) (e q : ℕ) → D b e q → Bus → Type 0) (P : (b : World) (e q : ℕ) → D b e q → QueueMade → Type 0) where
+    (B A : (b : World) (e q : ℕ) → D b e q → Bus → Type 0) (P : (b : World) (e q : ℕ) → D b e q → QueueMade → Type 0) where
   abbrev pub AreSplitsWaiting : Fixed → World → World → SoFar → List QueueMade → ℕ → Type 0
   AreSplitsWaiting fixed b w t ms again =
       again ≤ 4000000 → (e q : ℕ) (d : D (controller_next fixed b) e q) → IsUncancelled w.driver e
       → IsSplitWaiting fixed (controller_next fixed b) w t ms e q (X (controller_next fixed b) e q d) (B (controller_next fixed b) e q d)
-      (P (controller_next fixed b) e q d)
+      (A (controller_next fixed b) e q d) (P (controller_next fixed b) e q d)
 
   -- what is due comes so
   abbrev pub Comes : Fixed → Type 0
   Comes fixed =
       (b : World) → IsMixedWorld b → HeadsHaveFields b.driver b.memory → QueuesSendData b.driver b.memory → (e q : ℕ) (d : D b e q)
-      → IsDueOf fixed b e q (X b e q d) (B b e q d) (P b e q d)
+      → (i : IsDueOf fixed b e q (X b e q d) (B b e q d) (P b e q d)) × Brings fixed (X b e q d) (B b e q d) (A b e q d) i.queue
+
+  -- an event of the controller leaves what holds of the bus since its transaction was written back
+  abbrev pub GoesAfter : Fixed → World → World → List QueueMade → Type 0
+  GoesAfter fixed b w ms =
+      (e q : ℕ) (d : D b e q) → IsUncancelled w.driver e → HasMade (P b e q d) ms → controller_row w ≢ rows.Begin → A b e q d w.bus
+      → A b e q d (controller_next fixed w).bus
 
   -- an event of the walk of the frames at another structure leaves what has to hold of the bus
   abbrev pub StaysBeside : Fixed → Type 0
@@ -121,7 +137,8 @@ module _ (D : World → ℕ → ℕ → Type 0) (X : (b : World) (e q : ℕ) →
 
   module _ (fixed : Fixed) (comes : Comes fixed) (stays : StaysBeside fixed)
       (x : Sides) (b w : World) (t : SoFar) (ms : List QueueMade) (again : ℕ) (k : IsKnown fixed x b w t) (are : AreKnown fixed w)
-      (timely : IsInTime fixed again w) (all : AreSplitsWaiting fixed b w t ms again) where
+      (timely : IsInTime fixed again w) (after : GoesAfter fixed (controller_next fixed b) w ms)
+      (all : AreSplitsWaiting fixed b w t ms again) where
     abbrev new : World
     new = controller_next fixed w
 
@@ -137,9 +154,9 @@ module _ (D : World → ℕ → ℕ → Type 0) (X : (b : World) (e q : ℕ) →
       abbrev moves : List QueueMade
       moves = made_at w.control.frame.hand w.control.frame.reply (kind_next w) ms
 
-      module _ (y : EpDesc) (low : is_high y.speed ≡ false) (C : Bus → Type 0) where
+      module _ (y : EpDesc) (low : is_high y.speed ≡ false) (C E : Bus → Type 0) where
         abbrev After : ℕ → ℕ → Placement → Qh → (QueueMade → Type 0) → Type 0
-        After q f p v R = SplitStage fixed y C (controller_next fixed w) (so_far_after rows.Frame w t) moves q f p v R
+        After q f p v R = SplitStage fixed y C E (controller_next fixed w) (so_far_after rows.Frame w t) moves q f p v R
 
         -- it stands on the bus
         heard_now : (e q : ℕ) (p : Placement) (i : IsInItsFrames w.driver e q p) → i.endpoint.desc ≡ y → IsHeardOn fixed w.bus y
@@ -148,23 +165,48 @@ module _ (D : World → ℕ → ℕ → Type 0) (X : (b : World) (e q : ℕ) →
             (are.hears e i.endpoint i.here (ap (λ (d : EpDesc). is_high d.speed) its ∙ low)
             (no_control i.endpoint.desc (k.mixed.mixed.turns.kinds_fit e i.endpoint i.here) i.kind))
 
+        -- the copy in hand asks by its way
+        pid_now : (e q : ℕ) (p : Placement) (i : IsInItsFrames w.driver e q p) → i.endpoint.desc ≡ y → (h : HeldQueue)
+            → w.control.part ≡ Periodic → w.control.frame.hand ≡ Some (hands.Queue h) → h.copy.at ≡ 32 * q
+            → h.copy.queue_head.token.active ≡ true → h.copy.queue_head.token.pid ≡ pid_of (dir_of y.name.way)
+        pid_now e q p i its h on hand at active =
+            let owners = k.mixed.mixed.now.framed.place.sound.owners in
+            let goes : GoesBy w.driver (32 * i.endpoint.queue) (way_of i.endpoint) = record {
+              at = record {
+                belongs = belongs_by w.driver owners k.mixed.mixed.now.planned (32 * i.endpoint.queue) e i.endpoint i.here
+                    (alive w.driver owners e i.endpoint i.here i.chained) (ap is_periodic i.kind) (a_queue i.kind refl);
+                kind = i.kind;
+                name = refl;
+              };
+              way = refl;
+            } in
+            (mixed_worlds_read_data w k.mixed k.sends).copies h (way_of i.endpoint)
+            (subst (λ (n : ℕ). GoesBy w.driver n (way_of i.endpoint)) (ap (λ (n : ℕ). 32 * n) i.queue ∙ sym at) goes) on hand active
+            ∙ ap (λ (d : EpDesc). pid_of (dir_of d.name.way)) its
+
         frame_stage : again ≤ 4000000 → (e q f : ℕ) (p : Placement) (v : Qh) (R : QueueMade → Type 0) (i : IsInItsFrames w.driver e q p)
             → i.endpoint.desc ≡ y
             → ((s : Standing) (m : Lines) (h : Heads) → IsPiped fixed x s m h w → (c : Bus) → BusGoes fixed w e c → C w.bus → C c)
-            → IsTransactionDue fixed y C f (32 * q) v R → SplitStage fixed y C w t ms q f p v R → After q f p v R
-        frame_stage few e q f p v R i its beside d (is_ahead a) =
+            → IsTransactionDue fixed y C f (32 * q) v R → Brings fixed y C E v
+            → (HasMade R ms → E w.bus → E (controller_next fixed w).bus) → SplitStage fixed y C E w t ms q f p v R → After q f p v R
+        frame_stage few e q f p v R i its beside d brings goes (is_ahead a) =
             let g = k.followed in
             let tells = k.tells (λ is. let never : rows.Frame ≡ rows.Begin = sym row ∙ is in cc never) in
             split_ahead fixed x g.standing g.lines g.heads w g.followed.piped k.heads k.sends row tells e q p i
-            (ap (λ (d : EpDesc). is_high d.speed) its ∙ low) (are.sized e i.endpoint i.here) y its C
+            (ap (λ (d : EpDesc). is_high d.speed) its ∙ low) (are.sized e i.endpoint i.here) y its C E
             (beside g.standing g.lines g.heads g.followed.piped) f v R t moves a
-        frame_stage few e q f p v R i its beside d (is_held s) =
+        frame_stage few e q f p v R i its beside d brings goes (is_held s) =
             ⊎_elim {C = After q f p v R} (λ (u : IsSplitHeld fixed y C (controller_next fixed w) (32 * q) f v). is_held u)
-            (λ (u : IsSplitTold (controller_next fixed w) R). is_told u)
-            (split_held fixed y C w k.mixed q f v R d s (heard_now e q p i its) again few timely)
-        frame_stage few e q f p v R i its beside d (is_told s) = is_done (split_written fixed y C w k.mixed q f v R d row ms s)
-        frame_stage few e q f p v R i its beside d (is_done u) =
-            is_done (more_made R w.control.frame.hand w.control.frame.reply (kind_next w) ms u)
+            (λ (u : IsSplitTold (controller_next fixed w) R × E (controller_next fixed w).bus). is_told u.0 u.1)
+            (split_held fixed y C w k.mixed q f v R d E brings s (pid_now e q p i its s.held s.periodic s.hand s.at) (heard_now e q p i its)
+            are.room again few timely)
+        frame_stage few e q f p v R i its beside d brings goes (is_told s left) =
+            let g = k.followed in
+            is_done (split_written fixed y C w k.mixed q f v R d row ms s)
+            (subst E (sym (written_bus fixed x g.standing g.lines g.heads w g.followed.piped k.heads k.sends row s.held s.hand s.outcome
+            s.settled)) left)
+        frame_stage few e q f p v R i its beside d brings goes (is_done u left) =
+            is_done (more_made R w.control.frame.hand w.control.frame.reply (kind_next w) ms u) (goes u left)
 
       frame_goes : AreSplitsWaiting fixed b (controller_next fixed w) (so_far_after rows.Frame w t) moves
           (repeats_at w.control.frame.hand (kind_next w) again)
@@ -182,12 +224,14 @@ module _ (D : World → ℕ → ℕ → Type 0) (X : (b : World) (e q : ℕ) →
             index = index_on (λ is. let never : rows.Frame ≡ rows.Begin = sym row ∙ is in cc never) ∙ old.index;
             queue = old.queue;
             due = old.due;
-            stage = frame_stage (X (controller_next fixed b) e q d) old.low (B (controller_next fixed b) e q d) little e q
-                (controller_next fixed b).control.frame.index old.placement old.queue (P (controller_next fixed b) e q d) old.frames
-                old.desc
+            brings = old.brings;
+            stage = frame_stage (X (controller_next fixed b) e q d) old.low (B (controller_next fixed b) e q d)
+                (A (controller_next fixed b) e q d) little e q (controller_next fixed b).control.frame.index old.placement old.queue
+                (P (controller_next fixed b) e q d) old.frames old.desc
                 (λ s m h piped c goes had. stays x s m h w piped are.named (controller_next fixed b) e q d old.frames.endpoint
                 old.frames.here old.frames.kind old.desc c goes had)
-                old.due old.stage;
+                old.due old.brings
+                (λ made left. after e q d off made (λ is. let never : rows.Frame ≡ rows.Begin = sym row ∙ is in cc never) left) old.stage;
           }
 
     -- ---- once the walk of the frames is over it came to each
@@ -206,23 +250,24 @@ module _ (D : World → ℕ → ℕ → Type 0) (X : (b : World) (e q : ℕ) →
           index = index_on off_begin ∙ old.index;
           queue = old.queue;
           due = old.due;
+          brings = old.brings;
           stage = over old.placement old.queue old.was old.active old.frames old.index old.stage;
         }
       where
         over : (p : Placement) (v : Qh) → IsInItsFrames (controller_next fixed b).driver e q p
             → is_active p (frame_in (controller_next fixed b).control.frame.index) ≡ true → IsInItsFrames w.driver e q p
             → w.control.frame.index ≡ (controller_next fixed b).control.frame.index
-            → SplitStage fixed (X (controller_next fixed b) e q d) (B (controller_next fixed b) e q d) w t ms q
-            (controller_next fixed b).control.frame.index p v (P (controller_next fixed b) e q d)
-            → SplitStage fixed (X (controller_next fixed b) e q d) (B (controller_next fixed b) e q d) (controller_next fixed w) t ms q
-            (controller_next fixed b).control.frame.index p v (P (controller_next fixed b) e q d)
+            → SplitStage fixed (X (controller_next fixed b) e q d) (B (controller_next fixed b) e q d) (A (controller_next fixed b) e q d)
+            w t ms q (controller_next fixed b).control.frame.index p v (P (controller_next fixed b) e q d)
+            → SplitStage fixed (X (controller_next fixed b) e q d) (B (controller_next fixed b) e q d) (A (controller_next fixed b) e q d)
+            (controller_next fixed w) t ms q (controller_next fixed b).control.frame.index p v (P (controller_next fixed b) e q d)
         over p v was active frames index (is_ahead a) =
             let c = k.comes e q p (past_frames w k.mixed off_frames) was frames
             (ap (λ (i : ℕ). is_active p (frame_in i)) index ∙ active) in
             absurd (a.unfound c.0 c.1)
         over p v was active frames index (is_held s) = absurd (off_frames (frame_row w (hands.Queue s.held) k.mixed s.periodic s.hand))
-        over p v was active frames index (is_told s) = absurd (off_frames (frame_row w (hands.Queue s.held) k.mixed s.periodic s.hand))
-        over p v was active frames index (is_done u) = is_done u
+        over p v was active frames index (is_told s left) = absurd (off_frames (frame_row w (hands.Queue s.held) k.mixed s.periodic s.hand))
+        over p v was active frames index (is_done u left) = is_done u (after e q d off u off_begin left)
 
     -- ---- a microframe begins
 
@@ -230,9 +275,9 @@ module _ (D : World → ℕ → ℕ → Type 0) (X : (b : World) (e q : ℕ) →
         → HeadsHaveFields (controller_next fixed w).driver (controller_next fixed w).memory → (again_then : ℕ)
         → AreSplitsWaiting fixed w (controller_next fixed w) nothing_yet [] again_then
     begin_goes row l heads_then again_then few e q d off =
+        let c = comes (controller_next fixed w) l heads_then (controller_keeps_data fixed w k.mixed k.sends) e q d in
         let n : IsDueOf fixed (controller_next fixed w) e q (X (controller_next fixed w) e q d) (B (controller_next fixed w) e q d)
-        (P (controller_next fixed w) e q d) =
-        comes (controller_next fixed w) l heads_then (controller_keeps_data fixed w k.mixed k.sends) e q d in
+        (P (controller_next fixed w) e q d) = c.0 in
         let g = begins_walk fixed w row l in
         record {
           placement = n.placement;
@@ -244,6 +289,7 @@ module _ (D : World → ℕ → ℕ → Type 0) (X : (b : World) (e q : ℕ) →
           index = refl;
           queue = n.queue;
           due = n.due;
+          brings = c.1;
           stage = is_ahead (record {
             periodic = g.periodic;
             index = refl;
@@ -287,10 +333,10 @@ module _ (D : World → ℕ → ℕ → Type 0) (X : (b : World) (e q : ℕ) →
         (back : (e : ℕ) → IsUncancelled later.driver e → IsUncancelled w.driver e)
         (still : (e q : ℕ) (p : Placement) (i : IsInItsFrames w.driver e q p) → IsUncancelled later.driver e
         → IsStillIn later e q p i.endpoint.desc) where
-      aside_stage : (y : EpDesc) (C : Bus → Type 0) (e q f : ℕ) (p : Placement) (v : Qh) (R : QueueMade → Type 0)
+      aside_stage : (y : EpDesc) (C E : Bus → Type 0) (e q f : ℕ) (p : Placement) (v : Qh) (R : QueueMade → Type 0)
           (i : IsInItsFrames w.driver e q p) (j : IsInItsFrames later.driver e q p) → j.endpoint.desc ≡ i.endpoint.desc
-          → is_active p (frame_in f) ≡ true → SplitStage fixed y C w t ms q f p v R → SplitStage fixed y C later t ms q f p v R
-      aside_stage y C e q f p v R i j same active (is_ahead a) = is_ahead (record {
+          → is_active p (frame_in f) ≡ true → SplitStage fixed y C E w t ms q f p v R → SplitStage fixed y C E later t ms q f p v R
+      aside_stage y C E e q f p v R i j same active (is_ahead a) = is_ahead (record {
         periodic = ap (λ (c : Control). c.part) aside.control ∙ a.periodic;
         index = ap (λ (c : Control). c.frame.index) aside.control ∙ a.index;
         free = ap (λ (z : Bus). may_not_be_used fixed.holds z.microframe) aside.bus ∙ a.free;
@@ -302,7 +348,7 @@ module _ (D : World → ℕ → ℕ → Type 0) (X : (b : World) (e q : ℕ) →
         bit = a.bit;
         bus = subst C (sym aside.bus) a.bus;
       })
-      aside_stage y C e q f p v R i j same active (is_held s) = is_held (record {
+      aside_stage y C E e q f p v R i j same active (is_held s) = is_held (record {
         periodic = ap (λ (c : Control). c.part) aside.control ∙ s.periodic;
         index = ap (λ (c : Control). c.frame.index) aside.control ∙ s.index;
         held = s.held;
@@ -319,7 +365,7 @@ module _ (D : World → ℕ → ℕ → Type 0) (X : (b : World) (e q : ℕ) →
         head = s.head;
         bus = subst C (sym aside.bus) s.bus;
       })
-      aside_stage y C e q f p v R i j same active (is_told s) = is_told (record {
+      aside_stage y C E e q f p v R i j same active (is_told s left) = is_told (record {
         periodic = ap (λ (c : Control). c.part) aside.control ∙ s.periodic;
         held = s.held;
         hand = ap (λ (c : Control). c.frame.hand) aside.control ∙ s.hand;
@@ -330,8 +376,8 @@ module _ (D : World → ℕ → ℕ → Type 0) (X : (b : World) (e q : ℕ) →
         is = λ ns.
             ap (λ (c : Control). made_as s.held.copy.settled s.held.copy.at s.held.copy.queue_head c.frame.reply ns) aside.control
             ∙ s.is ns;
-      })
-      aside_stage y C e q f p v R i j same active (is_done u) = is_done u
+      }) (subst E (sym aside.bus) left)
+      aside_stage y C E e q f p v R i j same active (is_done u left) = is_done u (subst E (sym aside.bus) left)
 
       aside_goes : AreSplitsWaiting fixed b later t ms again
       aside_goes few e q d off =
@@ -347,9 +393,10 @@ module _ (D : World → ℕ → ℕ → Type 0) (X : (b : World) (e q : ℕ) →
             index = ap (λ (c : Control). c.frame.index) aside.control ∙ old.index;
             queue = old.queue;
             due = old.due;
-            stage = aside_stage (X (controller_next fixed b) e q d) (B (controller_next fixed b) e q d) e q
-                (controller_next fixed b).control.frame.index old.placement old.queue
-                (P (controller_next fixed b) e q d) old.frames s.frames s.same old.active old.stage;
+            brings = old.brings;
+            stage = aside_stage (X (controller_next fixed b) e q d) (B (controller_next fixed b) e q d) (A (controller_next fixed b) e q d)
+                e q (controller_next fixed b).control.frame.index old.placement old.queue (P (controller_next fixed b) e q d) old.frames
+                s.frames s.same old.active old.stage;
           }
 
     by_driver : IsMixedWorld (driver_next w) → HeadsHaveFields (driver_next w).driver (driver_next w).memory

@@ -8,6 +8,7 @@ use Rattle.std.proofs.lemmas.Option.{same_Some}
 use Rattle.law_microframes.proofs.Common.{frame_row}
 use Rattle.usb_base.specs.declared.endpoints.EpDesc.{EpDesc}
 use Rattle.usb_base.specs.declared.packets.Reply.{Reply}
+use Rattle.hub_keys.specs.declared.key.Key.{Key}
 use Rattle.word_mem.specs.Memory.{Mem, word_at}
 use Rattle.link_words.specs.declared.kinds.QtdLink.TheVariants as qtd_links
 use Rattle.link_words.specs.Links.{qtd_link_of}
@@ -18,6 +19,7 @@ use Rattle.qh_qtd.specs.Token.{token_at}
 use Rattle.toggle_error.specs.declared.host.Outcome.{Outcome}
 use Rattle.bandwidth.specs.declared.placements.Placement.{Placement}
 use Rattle.mem_queues.specs.Structures.{queue_head_at_address}
+use Rattle.drv_periodic_table.specs.Periodic.{dir_of}
 use Rattle.drv_table.specs.Words.{is_high}
 use Rattle.hc_copy.specs.Overlay.{advanced, taken_token}
 use Rattle.hc_copy.specs.Transacting.{call_in, outcome_in}
@@ -47,8 +49,10 @@ use Rattle.claims_world.specs.QueuesMade.{QueueMade, made_as, made_at, HasMade}
 use Rattle.claims_world.specs.SoFar.{SoFar, so_far_after, HasFound}
 use Rattle.claims_world.specs.Visits.{is_held_now, fetched_by}
 use Rattle.law_world.specs.memory.Mixed.{Standing, IsMixedWorld}
-use Rattle.law_microframes.specs.time.DataQueues.{QueuesSendData}
+use Rattle.law_microframes.specs.time.DataQueues.{pid_of, QueuesSendData}
 use Rattle.law_microframes.specs.due.repeats.Hearing.{IsHeardOn}
+use Rattle.law_microframes.specs.translators.Results.{pipeline_for}
+use Rattle.law_microframes.specs.translators.Rooms.{HasRoom}
 use Rattle.law_microframes.specs.visits.Belonging.{HaveFields, HeadsHaveFields}
 use Rattle.law_microframes.proofs.lemmas.due.Fetched.{HasFetched, has_fetched, comes_goes}
 use Rattle.law_microframes.proofs.lemmas.due.FetchedKinds.{fetched_queue}
@@ -82,6 +86,16 @@ pub record IsTransactionDue (fixed : Fixed) (x : EpDesc) (B : Bus → Type 0) (f
   pub turn : turn_of f v ≡ turns.Work
   pub leaves : (q : Qh) → IsAsDue v q → IsHeadOf x q → (b : Bus) → IsHeardOn fixed b x → B b → (out : List ℕ) (last : Bool)
       → last ≡ is_last_of f q → P (made_as_due f n q out last (reply_to fixed b q out last))
+
+-- each pipeline has room for a start-split of each key
+abbrev pub HaveRoom : Bus → Type 0
+HaveRoom b = (hub port : ℕ) (key : Key) → HasRoom key (pipeline_for b.hubs hub port)
+
+-- .. and what it leaves of the bus is so
+abbrev pub Brings : Fixed → EpDesc → (Bus → Type 0) → (Bus → Type 0) → Qh → Type 0
+Brings fixed x B A v = (q : Qh) → IsAsDue v q → IsHeadOf x q → q.token.pid ≡ pid_of (dir_of x.name.way) → (b : Bus) → IsHeardOn fixed b x
+    → HaveRoom b → B b → (out : List ℕ) (last : Bool)
+    → A (transact_after fixed b (call_in (planned q) out last).ask (call_in (planned q) out last).out)
 
 -- ---- the stages
 
@@ -122,12 +136,13 @@ pub record IsSplitTold (w : World) (P : QueueMade → Type 0) : Type 0 where
   pub is : (ms : List QueueMade)
       → made_as held.copy.settled held.copy.at held.copy.queue_head w.control.frame.reply ms ≡ made ∷ ms
 
-pub data SplitStage (fixed : Fixed) (x : EpDesc) (B : Bus → Type 0) (w : World) (t : SoFar) (ms : List QueueMade) (q f : ℕ)
+-- B holds of the bus until its transaction, and A from then on
+pub data SplitStage (fixed : Fixed) (x : EpDesc) (B A : Bus → Type 0) (w : World) (t : SoFar) (ms : List QueueMade) (q f : ℕ)
     (p : Placement) (v : Qh) (P : QueueMade → Type 0) : Type 0 where
-  is_ahead : IsSplitAhead fixed B w t q f p v → SplitStage fixed x B w t ms q f p v P
-  is_held : IsSplitHeld fixed x B w (32 * q) f v → SplitStage fixed x B w t ms q f p v P
-  is_told : IsSplitTold w P → SplitStage fixed x B w t ms q f p v P
-  is_done : HasMade P ms → SplitStage fixed x B w t ms q f p v P
+  is_ahead : IsSplitAhead fixed B w t q f p v → SplitStage fixed x B A w t ms q f p v P
+  is_held : IsSplitHeld fixed x B w (32 * q) f v → SplitStage fixed x B A w t ms q f p v P
+  is_told : IsSplitTold w P → A w.bus → SplitStage fixed x B A w t ms q f p v P
+  is_done : HasMade P ms → A w.bus → SplitStage fixed x B A w t ms q f p v P
 
 -- ---- what was made stays made
 
@@ -160,8 +175,9 @@ one_made a z outcome ms r = record { at = a; queue = z; heard = r; outcome = out
 
 module _ (fixed : Fixed) (y : EpDesc) (B : Bus → Type 0) (w : World) (k : IsMixedWorld w) (q f : ℕ) (v : Qh) (P : QueueMade → Type 0)
     (d : IsTransactionDue fixed y B f (32 * q) v P) where
-  module _ (s : IsSplitHeld fixed y B w (32 * q) f v) (hears : IsHeardOn fixed w.bus y) (again : ℕ) (few : again ≤ 4000000)
-      (timely : IsInTime fixed again w) where
+  module _ (A : Bus → Type 0) (brings : Brings fixed y B A v) (s : IsSplitHeld fixed y B w (32 * q) f v)
+      (pid : s.held.copy.queue_head.token.active ≡ true → s.held.copy.queue_head.token.pid ≡ pid_of (dir_of y.name.way))
+      (hears : IsHeardOn fixed w.bus y) (room : HaveRoom w.bus) (again : ℕ) (few : again ≤ 4000000) (timely : IsInTime fixed again w) where
     abbrev place : FramePlace
     place = frame_place (controller_parts w)
 
@@ -169,7 +185,8 @@ module _ (fixed : Fixed) (y : EpDesc) (B : Bus → Type 0) (w : World) (k : IsMi
     x = s.held.copy.queue_head
 
     abbrev Then : Type 0
-    Then = IsSplitHeld fixed y B (controller_next fixed w) (32 * q) f v ⊎ IsSplitTold (controller_next fixed w) P
+    Then = IsSplitHeld fixed y B (controller_next fixed w) (32 * q) f v
+        ⊎ (IsSplitTold (controller_next fixed w) P × A (controller_next fixed w).bus)
 
     row : controller_row w ≡ rows.Frame
     row = frame_row w (hands.Queue s.held) k s.periodic s.hand
@@ -196,21 +213,24 @@ module _ (fixed : Fixed) (y : EpDesc) (B : Bus → Type 0) (w : World) (k : IsMi
         { place = queue_left_by (planned x) sent s.held there reply; bus = transact_after fixed w.bus call.ask call.out } in
         let next : controller_next fixed w ≡ with_turned w (framed (controller_parts w) u) =
         walked_to fixed w row u (ap (λ e. frame_by fixed e w.bus) (asks place s.held s.hand sound s.fresh turn late)) in
-        inr (record {
-          periodic = ap (λ (y : World). y.control.part) next
-              ∙ ap (part_after Periodic) (transacts place s.held s.hand sound s.fresh turn late);
-          held = transacted w.control.frame.index (planned x) sent reply s.held;
-          hand = ap (λ (y : World). y.control.frame.hand) next;
-          outcome = outcome_in (planned x) sent last reply;
-          settled = refl;
-          made = made_as_due f (32 * q) x sent last reply;
-          so = d.leaves x due s.head w.bus hears s.bus sent last (ap (λ (i : ℕ). is_last_of i x) s.index);
-          is = λ ns.
-              ap (one_made s.held.copy.at (left_as w.control.frame.index x sent last reply) (outcome_in (planned x) sent last reply) ns)
-              (ap (λ (y : World). y.control.frame.reply) next)
-              ∙ ap (λ (i : ℕ). made_as_due i s.held.copy.at x sent last reply ∷ ns) s.index
-              ∙ ap (λ (a : ℕ). made_as_due f a x sent last reply ∷ ns) s.at;
-        })
+        inr (
+          record {
+            periodic = ap (λ (y : World). y.control.part) next
+                ∙ ap (part_after Periodic) (transacts place s.held s.hand sound s.fresh turn late);
+            held = transacted w.control.frame.index (planned x) sent reply s.held;
+            hand = ap (λ (y : World). y.control.frame.hand) next;
+            outcome = outcome_in (planned x) sent last reply;
+            settled = refl;
+            made = made_as_due f (32 * q) x sent last reply;
+            so = d.leaves x due s.head w.bus hears s.bus sent last (ap (λ (i : ℕ). is_last_of i x) s.index);
+            is = λ ns.
+                ap (one_made s.held.copy.at (left_as w.control.frame.index x sent last reply) (outcome_in (planned x) sent last reply) ns)
+                (ap (λ (y : World). y.control.frame.reply) next)
+                ∙ ap (λ (i : ℕ). made_as_due i s.held.copy.at x sent last reply ∷ ns) s.index
+                ∙ ap (λ (a : ℕ). made_as_due f a x sent last reply ∷ ns) s.at;
+          },
+          subst A (sym (ap (λ (y : World). y.bus) next)) (brings x due s.head (pid work.active) w.bus hears room s.bus sent last),
+        )
 
     -- a qTD is taken
     took : (a : ℕ) (old : Qtd) → x.token.active ≡ false → x.token.halted ≡ false → qtd_link_of (next_pointer x) ≡ qtd_links.To a
@@ -255,7 +275,8 @@ module _ (fixed : Fixed) (y : EpDesc) (B : Bus → Type 0) (w : World) (k : IsMi
     goes_by _ (to_itself work) due = worked work due
     goes_by _ (to_qtd a old idle unhalted leads aligned word work) due = took a old idle unhalted leads word work due
 
-    pub split_held : IsSplitHeld fixed y B (controller_next fixed w) (32 * q) f v ⊎ IsSplitTold (controller_next fixed w) P
+    pub split_held : IsSplitHeld fixed y B (controller_next fixed w) (32 * q) f v
+        ⊎ (IsSplitTold (controller_next fixed w) P × A (controller_next fixed w).bus)
     split_held = goes_by s.works s.goes s.due
 
   -- ---- its write-back
@@ -276,7 +297,7 @@ module _ (fixed : Fixed) (x : Sides) (s : Standing) (m : Lines) (h : Heads) (w :
     (heads : HeadsHaveFields w.driver w.memory) (sends : QueuesSendData w.driver w.memory) (row : controller_row w ≡ rows.Frame)
     (tells : (controller_next fixed w).bus.microframe ≡ w.bus.microframe)
     (e q : ℕ) (p : Placement) (i : IsInItsFrames w.driver e q p) (low : is_high i.endpoint.desc.speed ≡ false)
-    (sized : IsSized i.endpoint.desc) (y : EpDesc) (its : i.endpoint.desc ≡ y) (B : Bus → Type 0)
+    (sized : IsSized i.endpoint.desc) (y : EpDesc) (its : i.endpoint.desc ≡ y) (B A : Bus → Type 0)
     (stays : (b : Bus) → BusGoes fixed w e b → B w.bus → B b) (f : ℕ) (v : Qh) (P : QueueMade → Type 0)
     (t : SoFar) (ns : List QueueMade) where
   abbrev n : ℕ
@@ -289,7 +310,7 @@ module _ (fixed : Fixed) (x : Sides) (s : Standing) (m : Lines) (h : Heads) (w :
   mixed = record { standing = s; mixed = k.mixed }
 
   abbrev After : Type 0
-  After = SplitStage fixed y B (controller_next fixed w) now ns q f p v P
+  After = SplitStage fixed y B A (controller_next fixed w) now ns q f p v P
 
   module _ (a : IsSplitAhead fixed B w t q f p v) where
     apart_queue : (b : ℕ) → held_address w.control.frame.hand ≡ Some b → 32 * i.endpoint.queue ≢ b
@@ -360,5 +381,5 @@ module _ (fixed : Fixed) (x : Sides) (s : Standing) (m : Lines) (h : Heads) (w :
     by_hand None is = by_fetch is (fetched_by (chain_row w.memory w.control.frame.cursor)) refl
     by_hand (Some b) is = is_ahead (goes_ahead (λ none fetched. some_none b (sym is ∙ none)))
 
-    pub split_ahead : SplitStage fixed y B (controller_next fixed w) (so_far_after rows.Frame w t) ns q f p v P
+    pub split_ahead : SplitStage fixed y B A (controller_next fixed w) (so_far_after rows.Frame w t) ns q f p v P
     split_ahead = by_hand w.control.frame.hand refl

@@ -1,12 +1,10 @@
 -- By the last complete-split of its frame the host heard what the device answered, where the start-split came to the translator (EHCI 1.0,
 -- 4.12.2; USB 2.0, 11.18 and 11.20).
-use Rattle.std.proofs.Common.{◌≡◌, ◌≢◌, ℕ, zero, suc, ◌+◌, ◌*◌, ◌≤◌, ◌<◌, Bool, true, false, List, [], ◌∷◌, slice_get, Some, ap, refl}
+use Rattle.std.proofs.Common.{◌≡◌, ◌≢◌, ℕ, zero, suc, ◌*◌, ◌≤◌, ◌<◌, Bool, true, false, List, [], ◌∷◌, ap, refl}
 use Rattle.std.proofs.Common.{sym, subst, ◌∙◌}
 use Rattle.std.proofs.Common.{arith, ⊎_elim, inl, inr, ◌⊎◌, if◌then◌else◌}
 use Rattle.std.specs.Prelude.{nat_le}
-use Rattle.std.specs.List.{find, AllByRecursion}
-use Rattle.std.proofs.lemmas.Bool.{cases_Bool, cases_eq, true≢false}
-use Rattle.std.proofs.lemmas.Option.{same_Some}
+use Rattle.std.proofs.lemmas.Bool.{cases_eq, true≢false}
 use Rattle.usb_base.specs.declared.endpoints.EpDesc.{EpDesc}
 use Rattle.usb_base.specs.declared.packets.EpKind.{EpKind}
 use Rattle.usb_base.specs.declared.packets.EpKind.TheVariants.{Interrupt}
@@ -15,52 +13,44 @@ use Rattle.usb_base.specs.declared.packets.Reply.{Reply}
 use Rattle.usb_base.specs.declared.packets.Reply.TheVariants.{Hand}
 use Rattle.script_types.specs.declared.scripts.Script.{Script}
 use Rattle.script_text.specs.Faults.{Spells}
-use Rattle.hub_class.specs.HubContent.{HubContent}
 use Rattle.qh_qtd.specs.declared.queue_head.Qh.{Qh}
 use Rattle.tt_pipeline.specs.declared.entry.Entry.{Entry}
 use Rattle.tt_pipeline.specs.declared.entry.Exchange.{Exchange}
 use Rattle.tt_pipeline.specs.declared.entry.Exchange.TheVariants.{Ahead, Made}
 use Rattle.tt_pipeline.specs.declared.rows.AnswerRow.{AnswerRow}
 use Rattle.tt_pipeline.specs.declared.rows.AnswerRow.TheVariants.{Result, NotYet}
-use Rattle.tt_pipeline.specs.Answers.{made_row, row_at, answer_row, answer_at, answer_of, answer_from, complete_answer, result_of}
-use Rattle.tt_pipeline.specs.Starting.{has_key}
+use Rattle.tt_pipeline.specs.Answers.{made_row, row_at, answer_row, answer_at, answer_of, answer_from, result_of}
 use Rattle.tt_pipeline.specs.Work.{called_for}
 use Rattle.bandwidth.specs.declared.placements.Placement.{Placement}
 use Rattle.bandwidth.specs.Placements.{has}
 use Rattle.hc_interrupt.specs.Turns.{microframe_of}
-use Rattle.drv_table.specs.declared.content.Endpoint.{Endpoint}
-use Rattle.bus_wire.specs.Bus.{Bus, Fixed, fixed_of}
+use Rattle.bus_wire.specs.Bus.{Fixed, fixed_of}
 use Rattle.bus_world.specs.Budgets.{moment}
 use Rattle.bus_world.specs.World.{World}
-use Rattle.claims_world.specs.Behind.{key_for, pipeline_for}
-use Rattle.claims_world.specs.BelowStreams.{heard_clear}
 use Rattle.claims_world.specs.DueAtBegin.{begun, IsUncancelled}
 use Rattle.claims_world.specs.QueuesMade.{QueueMade, queues_made, HasMade}
-use Rattle.claims_world.specs.Results.{IsNextHeard, HasAnswer as HasReply, IsAnswerDue, HasEntry, IsLastIn, IsLastDue, IsToldBy}
+use Rattle.claims_world.specs.Results.{IsNextHeard, HasAnswer as HasReply, IsAnswerDue, HasEntry, IsLastIn, IsLastDue, IsToldBy, MovesBy}
+use Rattle.claims_world.specs.Results.{IsTaken}
 use Rattle.claims_world.specs.SplitsAtBegin.{IsStartDue, IsCompleteDue}
 use Rattle.claims_world.specs.Visits.{IsPastFrames}
 use Rattle.claims_world.specs.WithinLoad.{repeats}
 use Rattle.law_world.specs.memory.Mixed.{IsMixedWorld}
 use Rattle.law_microframes.specs.time.DataQueues.{QueuesSendData}
 use Rattle.law_microframes.specs.visits.Belonging.{HeadsHaveFields}
-use Rattle.claims_world.specs.SplitFrames.{IsOneFrame, IsEntryOf, HasCome, IsHeardThroughout, HasTold, DevicesAreHeard}
-use Rattle.law_reports.specs.due_at_begin.Splits.{TextsKeepSplitFrames}
+use Rattle.claims_world.specs.SplitFrames.{IsOneFrame, IsEntryOf, HasCome, IsHeardThroughout, DevicesAreHeard, IsDoneBy, WasDone}
 use Rattle.law_reports.proofs.lemmas.due_at_begin.EntryFrames.{IsStagedIn, IsStagedFrom, staged_next}
-use Rattle.law_reports.proofs.lemmas.due_at_begin.EntryKept.{AreSpared}
-use Rattle.law_reports.proofs.lemmas.due_at_begin.EntryStages.{HasStaged}
 use Rattle.law_reports.proofs.lemmas.due_at_begin.NotYet.{IsAskedOnce, asked_leaves, nyet_or_not, GoesOn, is_answered, more_on, not_yet}
-use Rattle.law_reports.proofs.lemmas.due_at_begin.PipelinesLeft.{AreHubsZero}
 use Rattle.law_reports.proofs.lemmas.due_at_begin.HubSeats.{hubs_are_zero}
-use Rattle.law_reports.proofs.lemmas.due_at_begin.LastDue.{last_answers_are_there}
+use Rattle.law_reports.proofs.lemmas.due_at_begin.LastDue.{IsThere, last_is_begun}
 use Rattle.law_reports.proofs.lemmas.due_at_begin.RestingMicroframes.{before_then}
-use Rattle.law_reports.proofs.lemmas.due_at_begin.ResultDue.{answer_beside, heard, answers_are_heard}
+use Rattle.law_reports.proofs.lemmas.due_at_begin.ResultDue.{answer_beside, heard, results_are_taken}
 use Rattle.law_reports.proofs.lemmas.due_at_begin.SplitDue.{complete_due}
 use Rattle.law_reports.proofs.lemmas.due_at_begin.SplitFrames.{Follows, had_answer, is_due, follows, its_complete, told, order_begun}
-use Rattle.law_reports.proofs.lemmas.due_at_begin.SplitFrames.{completes_follow, completes_are_answered}
 use Rattle.law_reports.proofs.lemmas.due_at_begin.SplitMoments.{IsDueOf}
 use Rattle.law_reports.proofs.lemmas.due_at_begin.SplitRuns.{splits_are_made}
 use Rattle.law_reports.proofs.lemmas.due_at_begin.SplitOrder.{StartsFirst}
-use Rattle.law_reports.proofs.lemmas.due_at_begin.WrittenMoments.{IsSince, since_at}
+use Rattle.law_reports.proofs.lemmas.due_at_begin.StartCame.{spared_of}
+use Rattle.law_reports.proofs.lemmas.due_at_begin.WrittenMoments.{since_at}
 
 -- ---- a translator answers NYET, or what the device answered
 
@@ -135,13 +125,6 @@ module _ (q : Qh) (n f : ℕ) (reply : Reply) where
   told_by e x (m ∷ ms) (inl a) =
       inl (record { reply = x.answer; made = x.made; answered = record { at = a.asked.completed.at; heard = a.heard ∙ x.told } })
   told_by e x (m ∷ ms) (inr was) = inr (told_by e x ms was)
-
--- ---- hubs that are spared
-
-spared_of : (hub : ℕ) (x : EpDesc) → x.hub ≡ Some hub → (hs : List HubContent)
-    → AllByRecursion (λ (h : HubContent). Some h.address ≡ x.hub → heard_clear h ≡ false) hs → AreSpared hub hs
-spared_of hub x behind [] all = tt
-spared_of hub x behind (h ∷ hs) all = ((λ own. all.0 (ap Some own ∙ sym behind)), spared_of hub x behind hs all.1)
 
 no_bit : (b : Bool) → (b ≡ true → ⊥) → b ≡ false
 no_bit true off = absurd (off refl)
@@ -267,76 +250,105 @@ module _ (text : List ℕ) (s : Script) (spelled : Spells text s) (i e q : ℕ) 
         has = subst (λ (y : EpDesc). HasReply (fixed_of s) (begun s k).bus y (answer_of here.staged.entry)) (sym desc) has_reply;
       }
 
-      abbrev ToldAt : Type 0
-      ToldAt = HasMade (IsToldBy (32 * q) here.staged.entry) (queues_made s k)
-
       made : IsPastFrames (moment s k).world
           → HasMade (IsAskedTold c.split.queue (32 * q) (begun s k).control.frame.index (answer_of here.staged.entry)) (queues_made s k)
       unfolding answer_is_due
       made over = told_made text s spelled k e q over (one.few k from under) answer_is_due off
 
-      comes_to : IsPastFrames (moment s k).world → (A : Type 0) → (ToldAt → A)
+      abbrev Done : Type 0
+      Done = IsDoneBy (begun s k) (32 * q) d.split.there.endpoint.desc (queues_made s k)
+
+      taken : IsPastFrames (moment s k).world → (bytes : ℕ)
+          → MovesBy c.split.queue d.split.there.endpoint.desc.name.way (answer_of here.staged.entry) bytes
+          → HasMade (IsTaken c.split.queue (32 * q) bytes) (queues_made s k)
+      unfolding answer_is_due
+      taken over bytes moves =
+          results_are_taken text s spelled k e q over (one.few k from under)
+          (record {
+            due = answer_is_due;
+            bytes = bytes;
+            moves = subst (λ (y : EpDesc). MovesBy c.split.queue y.name.way (answer_of here.staged.entry) bytes) (sym desc) moves;
+          }) off
+
+      done : IsPastFrames (moment s k).world → IsDevices here.staged.entry (answer_of here.staged.entry)
+          → IsDoneBy (begun s k) (32 * q) d.split.there.endpoint.desc (queues_made s k)
+      done over told = record {
+        entry = here.staged.entry;
+        is = entry_is;
+        told = told_by c.split.queue (32 * q) (begun s k).control.frame.index (answer_of here.staged.entry) here.staged.entry told
+            (queues_made s k) (made over);
+        queue = c.split.queue;
+        read = c.split.read;
+        taken = λ reply bytes exchange moves.
+            taken over bytes
+            (subst (λ (r : Reply). MovesBy c.split.queue d.split.there.endpoint.desc.name.way r bytes)
+            (ap result_of (same_reply told.answer reply (sym exchange ∙ told.made)) ∙ sym told.told) moves);
+      }
+        where
+          same_reply : (a r : Reply) → ◌≡◌ {A = Exchange} (Made r) (Made a) → r ≡ a
+          same_reply a r is = cc
+
+      comes_to : IsPastFrames (moment s k).world → (A : Type 0) → (Done → A)
           → GoesOn A c.split.queue (32 * q) (begun s k).control.frame.index (queues_made s k)
       comes_to over A so =
           ⊎_elim {C = GoesOn A c.split.queue (32 * q) (begun s k).control.frame.index (queues_made s k)}
           (λ (nyet : answer_of here.staged.entry ≡ Hand Nyet).
           nyet_on c.split.queue (32 * q) (begun s k).control.frame.index (answer_of here.staged.entry) nyet A (queues_made s k) (made over))
           (λ (told : answer_of here.staged.entry ≢ Hand Nyet).
-          is_answered (so (told_by c.split.queue (32 * q) (begun s k).control.frame.index (answer_of here.staged.entry) here.staged.entry
-          (devices here.staged.entry here.staged.staged.kind told) (queues_made s k) (made over))))
+          is_answered (so (done over (devices here.staged.entry here.staged.staged.kind told))))
           (nyet_or_not (answer_of here.staged.entry))
 
       -- in the last microframe of the C-mask
-      last_made : c.split.placement ≡ d.split.placement
-          → IsLastIn d.split.placement.cmask (microframe_of (begun s k).control.frame.index) → IsPastFrames (moment s k).world
-          → HasMade (IsToldBy (32 * q) here.staged.entry) (queues_made s k)
-      last_made placed last over = last_answers_are_there text s spelled (answers_are_heard text s spelled) k e q over (one.few k from under) last_due off
-        where
-          two : 2 ≤ t.stage
-          two =
-              let count = t.count in
-              let gap = order.gap start (microframe_of (begun s k).control.frame.index) (omega arith) (omega arith) d.bit last.here in
-              omega (arith, count, gap)
+      module _ (placed : c.split.placement ≡ d.split.placement)
+          (last : IsLastIn d.split.placement.cmask (microframe_of (begun s k).control.frame.index)) where
+        two : 2 ≤ t.stage
+        two =
+            let count = t.count in
+            let gap = order.gap start (microframe_of (begun s k).control.frame.index) (omega arith) (omega arith) d.bit last.here in
+            omega (arith, count, gap)
 
-          last_due : IsLastDue (fixed_of s) (begun s k) e q
-          last_due = record {
-            complete = c;
-            last = subst (λ (n : ℕ). IsLastIn c.split.placement.cmask (microframe_of n)) here.shows
-                (subst (λ (p : Placement). IsLastIn p.cmask (microframe_of (begun s k).control.frame.index)) (sym placed) last);
-            entry = here.staged.entry;
-            has = subst (λ (y : EpDesc). HasEntry (begun s k).bus y here.staged.entry) (sym desc) (record {
-              hub = come.is.hub;
-              behind = come.is.behind;
-              there = here.staged.there;
-              kind = here.staged.staged.kind;
-              whole = here.staged.staged.heard two;
-            });
-            heard = subst (λ (y : EpDesc). IsNextHeard (fixed_of s) (begun s k).bus y) (sym desc) (through.heard k from under);
-          }
+        last_due : IsLastDue (fixed_of s) (begun s k) e q
+        last_due = record {
+          complete = c;
+          last = subst (λ (n : ℕ). IsLastIn c.split.placement.cmask (microframe_of n)) here.shows
+              (subst (λ (p : Placement). IsLastIn p.cmask (microframe_of (begun s k).control.frame.index)) (sym placed) last);
+          entry = here.staged.entry;
+          has = subst (λ (y : EpDesc). HasEntry (begun s k).bus y here.staged.entry) (sym desc) (record {
+            hub = come.is.hub;
+            behind = come.is.behind;
+            there = here.staged.there;
+            kind = here.staged.staged.kind;
+            whole = here.staged.staged.heard two;
+          });
+          heard = subst (λ (y : EpDesc). IsNextHeard (fixed_of s) (begun s k).bus y) (sym desc) (through.heard k from under);
+        }
+
+        last_devices : IsDevices here.staged.entry (answer_of here.staged.entry)
+        unfolding last_due
+        last_devices =
+            let there : IsThere (fixed_of s) (begun s k) e q last_due = last_is_begun text s spelled k e q last_due in
+            record { answer = there.reply; made = there.made; told = sym (ap answer_from last_due.has.there) ∙ there.answer }
 
     -- ---- along the frame
 
-    record Answered (k : ℕ) : Type 0 where
-      entry : Entry
-      is : IsEntryOf (begun s k).bus d.split.there.endpoint.desc entry
-      made : HasMade (IsToldBy (32 * q) entry) (queues_made s k)
+    abbrev Answered : ℕ → Type 0
+    Answered k = IsDoneBy (begun s k) (32 * q) d.split.there.endpoint.desc (queues_made s k)
 
     resolves : (k : ℕ) → i ≤ k → k < end → IsOneFrame s i (suc k) → IsUncancelled (moment s k).world.driver e
         → IsPastFrames (moment s k).world → (c : IsCompleteDue (fixed_of s) (begun s k) e q)
         → has d.split.placement.cmask (microframe_of (begun s k).control.frame.index) ≡ true
         → GoesOn (Answered k) c.split.queue (32 * q) (begun s k).control.frame.index (queues_made s k)
     resolves k from less so off over c bit =
-        comes_to k from (omega (arith, less)) off c bit over (Answered k)
-        (λ told. record {
-          entry = (here k from (omega (arith, less)) off c bit).staged.entry;
-          is = entry_is k from (omega (arith, less)) off c bit;
-          made = told;
-        })
+        comes_to k from (omega (arith, less)) off c bit over (Answered k) (λ told. told)
 
--- ---- the law
+-- ---- by the last complete-split
 
-pub devices_are_heard : (text : List ℕ) (s : Script) → Spells text s → DevicesAreHeard s
-devices_are_heard text s spelled i k e q less past d come one through off last over =
+pub splits_are_done : (text : List ℕ) (s : Script) → Spells text s → (i k e q : ℕ) → i ≤ k → IsPastFrames (moment s i).world
+    → (d : IsStartDue (fixed_of s) (begun s i) e q) → HasCome (moment s i).world.bus d.split.there.endpoint.desc → IsOneFrame s i k
+    → IsHeardThroughout s i k d.split.there.endpoint.desc → IsUncancelled (moment s k).world.driver e
+    → IsLastIn d.split.placement.cmask (microframe_of (begun s k).control.frame.index) → IsPastFrames (moment s k).world
+    → WasDone s i (suc k) (32 * q) d.split.there.endpoint.desc
+splits_are_done text s spelled i k e q less past d come one through off last over =
     by (follows text s spelled i e q d Kept k last.here
     (told text s spelled Kept i e q k d
     (λ j from under so off_then past_then c bit. resolves text s spelled i e q past d come k one through j from under so off_then past_then c
@@ -345,23 +357,19 @@ devices_are_heard text s spelled i k e q less past d come one through off last o
     Kept : ℕ → Type 0
     Kept = Answered text s spelled i e q past d come k one through
 
-    by : Follows text s spelled i e q d Kept k → HasTold s i (suc k) (32 * q) d.split.there.endpoint.desc
-    by (had_answer at from before a) =
-        record { at = at; from = from; before = omega (arith, before); entry = a.entry; is = a.is; made = a.made }
+    by : Follows text s spelled i e q d Kept k → WasDone s i (suc k) (32 * q) d.split.there.endpoint.desc
+    by (had_answer at from before a) = record { at = at; from = from; before = omega (arith, before); done = a }
     by (is_due x) =
         let c : IsCompleteDue (fixed_of s) (begun s k) e q = its_complete text s spelled i e q d k less one last.here x in
         record {
           at = k;
           from = less;
           before = omega arith;
-          entry = (here text s spelled i e q past d come k one through k less (omega arith) off c last.here).staged.entry;
-          is = entry_is text s spelled i e q past d come k one through k less (omega arith) off c last.here;
-          made = last_made text s spelled i e q past d come k one through k less (omega arith) off c last.here refl last over;
+          done = done text s spelled i e q past d come k one through k less (omega arith) off c last.here over
+              (last_devices text s spelled i e q past d come k one through k less (omega arith) off c last.here refl last);
         }
 
-pub texts_keep_split_frames : TextsKeepSplitFrames
-texts_keep_split_frames = λ text s spelled. record {
-  follow = completes_follow text s spelled;
-  answered = completes_are_answered text s spelled;
-  told = devices_are_heard text s spelled;
-}
+pub devices_are_heard : (text : List ℕ) (s : Script) → Spells text s → DevicesAreHeard s
+devices_are_heard text s spelled i k e q less past d come one through off last over =
+    let x = splits_are_done text s spelled i k e q less past d come one through off last over in
+    record { at = x.at; from = x.from; before = x.before; entry = x.done.entry; is = x.done.is; made = x.done.told }

@@ -24,13 +24,13 @@ use Rattle.law_reports.proofs.lemmas.due_at_begin.WrittenMoments.{LeavesWaiting,
 
 -- ---- the start-split that was made
 
-record FoundStarted (n f : ℕ) (ms : List QueueMade) : Type 0 where
-  queue : Qh
-  left : HasMade (LeavesWaiting n queue) ms
-  none : queue.c_prog ≡ 0
-  tag : queue.frame_tag ≡ tag_of f
+pub record FoundStarted (n f : ℕ) (ms : List QueueMade) : Type 0 where
+  pub queue : Qh
+  pub left : HasMade (LeavesWaiting n queue) ms
+  pub none : queue.c_prog ≡ 0
+  pub tag : queue.frame_tag ≡ tag_of f
 
-found_started : (n f : ℕ) (ms : List QueueMade) → HasMade (IsStartedWaiting n f) ms → FoundStarted n f ms
+pub found_started : (n f : ℕ) (ms : List QueueMade) → HasMade (IsStartedWaiting n f) ms → FoundStarted n f ms
 found_started n f [] was = absurd was
 found_started n f (m ∷ ms) (inl x) = record {
   queue = m.queue;

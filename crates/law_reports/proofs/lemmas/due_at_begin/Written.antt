@@ -18,7 +18,7 @@ use Rattle.periodic_walk.specs.declared.state.HeldQueue.{HeldQueue}
 use Rattle.periodic_walk.specs.Rows.{step_of}
 use Rattle.hc_core.specs.declared.controller.ControllerRow.TheVariants as rows
 use Rattle.hc_core.specs.Controller.{frame_place}
-use Rattle.bus_wire.specs.Bus.{Fixed}
+use Rattle.bus_wire.specs.Bus.{Fixed, Wired}
 use Rattle.bus_world.specs.World.{World, controller_parts, controller_row, controller_next}
 use Rattle.law_structures.specs.lent_structures.Changes.{relinked}
 use Rattle.law_structures.specs.lent_structures.Structures.{StructureSets}
@@ -199,3 +199,18 @@ module _ (fixed : Fixed) (x : Sides) (s : Standing) (m : Lines) (h : Heads) (w :
   pub written_stands : IsWrittenSo (controller_next fixed w) held outcome
   written_stands =
       by_effect (step_of (frame_place (controller_parts w))) step (happens fixed x s m h w k heads sends row).effect
+
+  -- .. and asks nothing
+  bus_by : (kind : WalkStep) → kind ≡ walks.WriteBack
+      → FrameEffect transacts_by (both s.descs s.parts) w.control.frame s.frame (wired fixed w) (wired fixed (controller_next fixed w))
+      (happens fixed x s m h w k heads sends row).now (happens fixed x s m h w k heads sends row).later kind
+      → (controller_next fixed w).bus ≡ w.bus
+  bus_by _ is (fetches none r same quiet) = absurd (cc is)
+  bus_by _ is (passes r nothing same quiet) = absurd (cc is)
+  bus_by _ is (ends none nothing same quiet) = absurd (cc is)
+  bus_by _ is (makes r same) = absurd (cc is)
+  bus_by _ is (takes r quiet) = absurd (cc is)
+  bus_by _ is (writes r quiet) = ap (λ (v : Wired). v.bus) quiet
+
+  pub written_bus : (controller_next fixed w).bus ≡ w.bus
+  written_bus = bus_by (step_of (frame_place (controller_parts w))) step (happens fixed x s m h w k heads sends row).effect
