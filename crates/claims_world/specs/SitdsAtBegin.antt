@@ -3,8 +3,7 @@
 --     IsSitdDueAtBegin b n       the siTD at n is linked in the frame of the microframe as it begins, which left the world b: the links of
 --                                that frame lead there, and as a siTD; and by its words a transaction of it comes in this microframe: a
 --                                part of an OUT, or the start-split or a complete-split of an IN
---     HasServed u n v ms         of those that were written back, one is the siTD at n, and it is what the transaction of v in microframe u
---                                leaves
+--     HasServed u n v ms         of the transactions that were written back, one is of the siTD at n, and is that of v in microframe u
 --     SitdsAtBeginAreServed s    at each moment of the run of a script at which the walk of the frames is over, in a microframe that isn't
 --                                held: each siTD of which a transaction was due as the microframe began had it and was written back after
 --                                it, unless its endpoint was cancelled since, and it was unlinked; where no more than 4 microseconds went
@@ -21,7 +20,7 @@ use Rattle.bus_world.specs.Budgets.{moment}
 use Rattle.bus_world.specs.World.{World}
 use Rattle.claims_world.specs.DueAtBegin.{begun}
 use Rattle.claims_world.specs.Reach.{SitdAt}
-use Rattle.claims_world.specs.Sitds.{sitds, IsServed}
+use Rattle.claims_world.specs.Sitds.{SitdMade, sitds, IsServed}
 use Rattle.claims_world.specs.SlotsAtBegin.{IsLinkedAs, StaysDue}
 use Rattle.claims_world.specs.Visits.{IsPastFrames, is_held_now}
 use Rattle.claims_world.specs.WithinLoad.{repeats}
@@ -32,9 +31,9 @@ pub record IsSitdDueAtBegin (b : World) (n : ℕ) : Type 0 where
   pub read : sitd_at_address b.memory n ≡ Some sitd
   pub comes : sitd_turn (microframe_of b.control.frame.index) sitd ≡ turns.Work
 
-abbrev pub HasServed : ℕ → ℕ → Sitd → List (ℕ × Sitd) → Type 0
+abbrev pub HasServed : ℕ → ℕ → Sitd → List SitdMade → Type 0
 HasServed u n v [] = ⊥
-HasServed u n v (m ∷ ms) = ((m.0 ≡ n) × IsServed u v m.1) ⊎ HasServed u n v ms
+HasServed u n v (m ∷ ms) = ((m.at ≡ n) × IsServed u v m) ⊎ HasServed u n v ms
 
 -- 4,000,000 of the 125,000,000 ps of a microframe
 abbrev pub SitdsAtBeginAreServed : Script → Type 0

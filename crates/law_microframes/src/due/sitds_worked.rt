@@ -8,7 +8,7 @@ ghost use Rattle.hc_iso.specs.Sitd.{sitd_turn};
 ghost use Rattle.claims_world.specs.Sitds.{AreServed};
 ghost use Rattle.claims_world.specs.Visits.{IsPastFrames};
 ghost use Rattle.law_microframes.specs.due.sitds.Samples.{speaker, microphone, speaker_place, microphone_place, sound_at, sounds};
-ghost use Rattle.law_microframes.specs.due.sitds.Samples.{said, asked, heard, last};
+ghost use Rattle.law_microframes.specs.due.sitds.Samples.{said, asked, heard, last, made_so, nothing_heard, first_bytes, last_bytes};
 
 /// The speaker's frame begins, and the walk comes to its descriptor, of which the first part is to be sent; where it was sent and isn't
 /// written back it isn't made yet.
@@ -39,29 +39,30 @@ pub fn parts_are_made_one_by_one()
     ensures first { sitd_turn 1 (said 0) ≡ Work }
     ensures second { sitd_turn 2 (said 1) ≡ Work }
     ensures third { sitd_turn 3 (said 2) ≡ Work }
-    ensures one { AreServed 1 ((64, said 0) ∷ []) ((64, said 1) ∷ []) }
-    ensures two { AreServed 2 ((64, said 1) ∷ []) ((64, said 2) ∷ []) }
-    ensures three { AreServed 3 ((64, said 2) ∷ []) ((64, said 3) ∷ []) }
+    ensures one { AreServed 1 ((64, said 0) ∷ []) (made_so (said 1) nothing_heard ∷ []) }
+    ensures two { AreServed 2 ((64, said 1) ∷ []) (made_so (said 2) nothing_heard ∷ []) }
+    ensures three { AreServed 3 ((64, said 2) ∷ []) (made_so (said 3) nothing_heard ∷ []) }
     ensures going { (said 2).active ≡ true }
     ensures ended { (said 3).active ≡ false }
     ensures none_left { (said 3).total ≡ 0 }
     ensures missed { sitd_turn 3 (said 1) ≡ Miss }
-    ensures unsent { AreServed 2 ((64, said 1) ∷ []) ((64, said 1) ∷ []) → ⊥ }
+    ensures unsent { AreServed 2 ((64, said 1) ∷ []) (made_so (said 1) nothing_heard ∷ []) → ⊥ }
 {}
 
 /// An IN of 200 bytes has its start-split in microframe 0, none once it waits for its complete-splits, and two of those, of which the last
-/// ends it; one that is written back unmarked isn't served.
+/// ends it; one that is written back unmarked isn't served, nor one that the first of two answers ended.
 pub fn completes_are_made_one_by_one()
     ensures started { sitd_turn 0 (split_in false 200) ≡ Work }
     ensures once { sitd_turn 0 asked ≡ Rest }
     ensures first { sitd_turn 2 asked ≡ Work }
     ensures second { sitd_turn 3 heard ≡ Work }
-    ensures one { AreServed 0 ((64, split_in false 200) ∷ []) ((64, asked) ∷ []) }
-    ensures two { AreServed 2 ((64, asked) ∷ []) ((64, heard) ∷ []) }
-    ensures three { AreServed 3 ((64, heard) ∷ []) ((64, last) ∷ []) }
+    ensures one { AreServed 0 ((64, split_in false 200) ∷ []) (made_so asked nothing_heard ∷ []) }
+    ensures two { AreServed 2 ((64, asked) ∷ []) (made_so heard first_bytes ∷ []) }
+    ensures three { AreServed 3 ((64, heard) ∷ []) (made_so last last_bytes ∷ []) }
     ensures going { heard.active ≡ true }
     ensures left { heard.total ≡ 12 }
     ensures ended { last.active ≡ false }
     ensures none_left { last.total ≡ 0 }
-    ensures unmarked { AreServed 2 ((64, asked) ∷ []) ((64, asked) ∷ []) → ⊥ }
+    ensures unmarked { AreServed 2 ((64, asked) ∷ []) (made_so asked first_bytes ∷ []) → ⊥ }
+    ensures more { AreServed 2 ((64, asked) ∷ []) (made_so (record heard { active = false }) first_bytes ∷ []) → ⊥ }
 {}

@@ -10,10 +10,13 @@
 --     said k                  the siTD of an OUT of 400 bytes from microframe 1 on, after k of its parts
 --     asked, heard            the siTD of an IN after its start-split, and after a complete-split in microframe 2 that brings 188 bytes;
 --                             and last: after one in microframe 3 that brings the last 12
+--     made_so v r             a transaction that leaves v, which stands at byte address 64, and in which the host heard r
+--     nothing_heard, first_bytes, last_bytes     what it heard: of an OUT nothing that counts; 188 bytes; the last 12
 use Rattle.std.specs.Prelude.{ℕ, zero, suc, false, List, [], ◌∷◌, Some, replicate}
 use Rattle.usb_base.specs.declared.commands.Cmd.TheVariants as commands
 use Rattle.usb_base.specs.declared.endpoints.EpDesc.{EpDesc}
 use Rattle.usb_base.specs.declared.packets.Pid.TheVariants as pids
+use Rattle.usb_base.specs.declared.packets.Reply.{Reply}
 use Rattle.usb_base.specs.declared.packets.Reply.TheVariants.{Bytes}
 use Rattle.usb_base.specs.declared.packets.Speed.TheVariants as speeds
 use Rattle.usb_base.specs.declared.packets.Way.TheVariants as ways
@@ -32,7 +35,7 @@ use Rattle.bus_world.specs.Opening.{opening_world}
 use Rattle.bus_world.specs.Orders.{Events, OrderedWorld, at_place, orders_of, ticks}
 use Rattle.bus_world.specs.World.{World}
 use Rattle.claims_world.specs.Carried.{carried_from}
-use Rattle.claims_world.specs.Sitds.{Sitds, no_sitds, sitds_next}
+use Rattle.claims_world.specs.Sitds.{SitdMade, Sitds, no_sitds, sitds_next}
 
 abbrev pub speaker : EpDesc
 speaker = behind_a_hub 2 ways.Out 400
@@ -96,3 +99,16 @@ heard = sitd_after 2 (Bytes pids.Mdata (replicate 188 0)) asked
 
 abbrev pub last : Sitd
 last = sitd_after 3 (Bytes pids.Data0 (replicate 12 0)) heard
+
+-- it stands at byte address 64, and the host heard this
+abbrev pub made_so : Sitd → Reply → SitdMade
+made_so v r = record { at = 64; sitd = v; heard = r }
+
+abbrev pub nothing_heard : Reply
+nothing_heard = Bytes pids.Data0 []
+
+abbrev pub first_bytes : Reply
+first_bytes = Bytes pids.Mdata (replicate 188 0)
+
+abbrev pub last_bytes : Reply
+last_bytes = Bytes pids.Data0 (replicate 12 0)

@@ -1,6 +1,7 @@
 -- The walk of the frames comes to each siTD of which a transaction was due as the microframe began, while no cancel of its endpoint is
 -- accepted; so it had that transaction once the walk is over, and was written back after it.
-use Rattle.std.proofs.Common.{◌≡◌, ◌≢◌, ℕ, [], ◌∷◌, Bool, true, false, List, Option, Some, None, ap, refl, sym, subst, ◌∙◌, inl, inr, ◌⊎◌}
+use Rattle.std.proofs.Common.{◌≡◌, ◌≢◌, ℕ, [], ◌∷◌, Bool, true, false, List, length, Option, Some, None, ap, refl, sym, subst, ◌∙◌, inl}
+use Rattle.std.proofs.Common.{inr, ◌⊎◌}
 use Rattle.word_mem.specs.Memory.{Mem}
 use Rattle.itd_sitd.specs.declared.sitd.Sitd.{Sitd}
 use Rattle.hc_interrupt.specs.Turns.{microframe_of}
@@ -17,7 +18,8 @@ use Rattle.bus_wire.specs.Bus.{Fixed}
 use Rattle.bus_world.specs.World.{World, controller_row}
 use Rattle.claims_world.specs.DueAtBegin.{begun}
 use Rattle.claims_world.specs.Reach.{SitdAt}
-use Rattle.claims_world.specs.Sitds.{Sitds, no_sitds, came_as, came_by, came_at, sitds_after, sitds, IsServed, AreServed}
+use Rattle.claims_world.specs.Sitds.{SitdMade, Sitds, no_sitds, came_as, came_by, came_at, sitds_after, sitds, HasTaken, IsServed}
+use Rattle.claims_world.specs.Sitds.{AreServed}
 use Rattle.claims_world.specs.SitdsAtBegin.{IsSitdDueAtBegin, HasServed}
 use Rattle.claims_world.specs.SlotsAtBegin.{IsLinkedAs}
 use Rattle.claims_world.specs.Visits.{fetched_by}
@@ -109,21 +111,32 @@ sitds_are_followed = record {
 
 -- ---- what came was made
 
-relinked_serves : (u : ℕ) (v x y : Sitd) → IsRelinked v x → IsServed u x y → IsServed u v y
-relinked_serves u v x y same k =
-    let z : IsServed u (record v { link = x.link }) y = subst (λ (i : Sitd). IsServed u i y) same k in
+relinked_takes : (v y x : Sitd) (n : ℕ) → HasTaken (record v { link = y.link }) x n → HasTaken v x n
+relinked_takes v y x n k =
+    record { bytes = k.bytes; err = k.err; babble = k.babble; transaction = k.transaction; missed = k.missed }
+
+relinked_serves : (u : ℕ) (v x : Sitd) (m : SitdMade) → IsRelinked v x → IsServed u x m → IsServed u v m
+relinked_serves u v x m same k =
+    let z : IsServed u (record v { link = x.link }) m = subst (λ (i : Sitd). IsServed u i m) same k in
     record {
       part = λ out. let p = z.part out in record { parts = p.parts; bytes = p.bytes; marked = p.marked; active = p.active };
       started = z.started;
-      completed = z.completed;
+      completed = λ inward waiting.
+          let p = z.completed inward waiting in
+          record {
+            marked = p.marked;
+            more = λ bytes is fits. let y = p.more bytes is fits in (relinked_takes v x m.sitd (length bytes) y.0, y.1);
+            last = λ bytes is fits. let y = p.last bytes is fits in (relinked_takes v x m.sitd (length bytes) y.0, y.1);
+            not_yet = λ is later. let y = p.not_yet is later in (relinked_takes v x m.sitd 0 y.0, y.1);
+          };
     }
 
-came_is_made : (u n : ℕ) (v : Sitd) (cs ms : List (ℕ × Sitd)) → AreServed u cs ms → HasCome n v cs → HasServed u n v ms
+came_is_made : (u n : ℕ) (v : Sitd) (cs : List (ℕ × Sitd)) (ms : List SitdMade) → AreServed u cs ms → HasCome n v cs → HasServed u n v ms
 came_is_made u n v [] [] served was = absurd was
 came_is_made u n v [] (m ∷ ms) served was = absurd was
 came_is_made u n v (c ∷ cs) [] served was = absurd served
 came_is_made u n v (c ∷ cs) (m ∷ ms) served (inl one) =
-    inl (served.0 ∙ one.0, relinked_serves u v c.1 m.1 one.1 served.1.0)
+    inl (served.0 ∙ one.0, relinked_serves u v c.1 m one.1 served.1.0)
 came_is_made u n v (c ∷ cs) (m ∷ ms) served (inr was) = inr (came_is_made u n v cs ms served.1.1 was)
 
 pub texts_serve_sitds_at_begin : TextsServeSitdsAtBegin

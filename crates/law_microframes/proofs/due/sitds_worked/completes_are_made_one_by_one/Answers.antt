@@ -1,4 +1,5 @@
-use Rattle.law_microframes.proofs.lemmas.due.lemmas.sitds.Sampled.{completes_come, completes_are_served, last_bytes_end, unmarked_isnt_served}
+use Rattle.law_microframes.proofs.lemmas.due.lemmas.sitds.Sampled.{completes_come, completes_are_served, last_bytes_end}
+use Rattle.law_microframes.proofs.lemmas.due.lemmas.sitds.Sampled.{unmarked_isnt_served, ended_isnt_served}
 use Rattle.law_microframes.proofs.due.sitds_worked.completes_are_made_one_by_one.Goals as goal
 
 pub returns-clause-started : goal.returns-clause-started
@@ -36,3 +37,6 @@ returns-clause-none_left c = last_bytes_end.3
 
 pub returns-clause-unmarked : goal.returns-clause-unmarked
 returns-clause-unmarked c = unmarked_isnt_served
+
+pub returns-clause-more : goal.returns-clause-more
+returns-clause-more c = ended_isnt_served

@@ -3,6 +3,7 @@ use Rattle.std.proofs.Common.{◌≡◌, ℕ, List, Option, Some, None, ap, refl
 use Rattle.std.proofs.lemmas.Bool.{false≢true}
 use Rattle.script_types.specs.declared.scripts.Script.{Script}
 use Rattle.script_text.specs.Faults.{Spells}
+use Rattle.usb_base.specs.declared.packets.Reply.{Reply}
 use Rattle.itd_sitd.specs.declared.sitd.Sitd.{Sitd}
 use Rattle.hc_interrupt.specs.Turns.{microframe_of}
 use Rattle.periodic_walk.specs.declared.state.Hand.{Hand}
@@ -13,7 +14,7 @@ use Rattle.hc_core.specs.declared.controller.MicroframePart.TheVariants.{Periodi
 use Rattle.bus_wire.specs.Bus.{Bus, Fixed, fixed_of}
 use Rattle.bus_world.specs.Budgets.{moment}
 use Rattle.bus_world.specs.World.{World, commanded}
-use Rattle.claims_world.specs.Sitds.{Sitds, no_sitds, sitds_next, sitds, AreServed}
+use Rattle.claims_world.specs.Sitds.{SitdMade, Sitds, no_sitds, sitds_next, sitds, AreServed}
 use Rattle.claims_world.specs.Visits.{IsPastFrames, is_held_now}
 use Rattle.claims_world.specs.WithinLoad.{repeats_next, repeats}
 use Rattle.law_world.proofs.lemmas.memory.Carrying.{carrying, both, both_carried}
@@ -28,7 +29,7 @@ use Rattle.law_microframes.proofs.lemmas.due.lemmas.sitds.Worlds.{GoOn, controll
 command_goes_on : (fixed : Fixed) (w other : World) (t : Sitds) (again : ℕ) → other.control ≡ w.control → other.bus ≡ w.bus
     → GoOn fixed w t again → GoOn fixed other t again
 command_goes_on fixed w other t again control bus all free few =
-    subst (λ (c : Control). WithPart (microframe_of c.frame.index) c.part c.frame.hand t.came t.made) (sym control)
+    subst (λ (c : Control). WithPart (microframe_of c.frame.index) c.part c.frame.hand c.frame.reply t.came t.made) (sym control)
     (all (ap (λ (b : Bus). is_held_now fixed (record w { bus = b })) (sym bus) ∙ free) few)
 
 served_at : (text : List ℕ) (s : Script) → Spells text s → (k : ℕ) → GoOn (fixed_of s) (moment s k).world (sitds s k) (repeats s k)
@@ -47,16 +48,17 @@ served_at text s spelled k =
     (λ free few. tt) k)
 
 -- where the walk is over nothing is in hand
-past_hand : (w : World) (u : ℕ) (part : MicroframePart) (hand : Option Hand) (cs ms : List (ℕ × Sitd)) → w.control.part ≡ part
-    → w.control.frame.hand ≡ hand → IsPastFrames w → WithPart u part hand cs ms → AreServed u cs ms
-past_hand w u Periodic None cs ms part is past served = served
-past_hand w u Periodic (Some hand) cs ms part is past served =
+past_hand : (w : World) (u : ℕ) (part : MicroframePart) (hand : Option Hand) (r : Reply) (cs : List (ℕ × Sitd)) (ms : List SitdMade)
+    → w.control.part ≡ part → w.control.frame.hand ≡ hand → IsPastFrames w → WithPart u part hand r cs ms → AreServed u cs ms
+past_hand w u Periodic None r cs ms part is past served = served
+past_hand w u Periodic (Some hand) r cs ms part is past served =
     absurd (false≢true (sym (ap (λ (o : Option Hand). over_at o w.control.frame.cursor) is) ∙ past part))
-past_hand w u Asynchronous hand cs ms part is past served = served
-past_hand w u Over hand cs ms part is past served = served
+past_hand w u Asynchronous hand r cs ms part is past served = served
+past_hand w u Over hand r cs ms part is past served = served
 
 pub texts_serve_sitds : TextsServeSitds
 texts_serve_sitds text s spelled k past free few =
     let w : World = (moment s k).world in
-    past_hand w (microframe_of w.control.frame.index) w.control.part w.control.frame.hand (sitds s k).came (sitds s k).made refl refl past
+    past_hand w (microframe_of w.control.frame.index) w.control.part w.control.frame.hand w.control.frame.reply (sitds s k).came
+    (sitds s k).made refl refl past
     (served_at text s spelled k free few)

@@ -1,9 +1,7 @@
 -- What the walk does of a speaker's and of a microphone's descriptors behind a hub.
-use Rattle.std.proofs.Common.{◌≡◌, ℕ, true, false, [], ◌∷◌, map, refl}
+use Rattle.std.proofs.Common.{◌≡◌, ℕ, true, false, [], ◌∷◌, map, refl, arith}
 use Rattle.std.specs.Prelude.{replicate}
 use Rattle.std.proofs.lemmas.Bool.{false≢true, true≢false}
-use Rattle.usb_base.specs.declared.packets.Pid.TheVariants as pids
-use Rattle.usb_base.specs.declared.packets.Reply.TheVariants.{Bytes}
 use Rattle.word_mem.specs.Memory.{filled}
 use Rattle.word_mem.specs.Views.{words_in, with_words_in}
 use Rattle.word_mem.specs.Free.{lowest_run}
@@ -29,7 +27,7 @@ use Rattle.claims_world.specs.Carried.{carried_from}
 use Rattle.claims_world.specs.Sitds.{AreServed}
 use Rattle.claims_world.specs.Visits.{IsPastFrames}
 use Rattle.law_microframes.specs.due.sitds.Samples.{speaker, microphone, speaker_place, microphone_place, sound_at, sounds}
-use Rattle.law_microframes.specs.due.sitds.Samples.{said, asked, heard, last}
+use Rattle.law_microframes.specs.due.sitds.Samples.{said, asked, heard, last, made_so, nothing_heard, first_bytes, last_bytes}
 use Rattle.law_microframes.proofs.lemmas.due.lemmas.sitds.Events.{one_served}
 
 -- ---- a speaker
@@ -115,13 +113,13 @@ unfolding lacks after_start after_part after_complete
 parts_come = (refl, refl, refl)
 
 pub parts_are_served :
-    AreServed 1 ((64, said 0) ∷ []) ((64, said 1) ∷ [])
-    × AreServed 2 ((64, said 1) ∷ []) ((64, said 2) ∷ [])
-    × AreServed 3 ((64, said 2) ∷ []) ((64, said 3) ∷ [])
+    AreServed 1 ((64, said 0) ∷ []) (made_so (said 1) nothing_heard ∷ [])
+    × AreServed 2 ((64, said 1) ∷ []) (made_so (said 2) nothing_heard ∷ [])
+    × AreServed 3 ((64, said 2) ∷ []) (made_so (said 3) nothing_heard ∷ [])
 parts_are_served = (
-  (refl, (one_served 1 (Bytes pids.Data0 []) (said 0), tt)),
-  (refl, (one_served 2 (Bytes pids.Data0 []) (said 1), tt)),
-  (refl, (one_served 3 (Bytes pids.Data0 []) (said 2), tt)),
+  (refl, (one_served 1 64 nothing_heard (said 0), tt)),
+  (refl, (one_served 2 64 nothing_heard (said 1), tt)),
+  (refl, (one_served 3 64 nothing_heard (said 2), tt)),
 )
 
 pub last_part_ends : ((said 2).active ≡ true) × ((said 3).active ≡ false) × ((said 3).total ≡ 0)
@@ -132,7 +130,7 @@ pub part_is_missed : sitd_turn 3 (said 1) ≡ Miss
 unfolding lacks after_start after_part after_complete
 part_is_missed = refl
 
-pub unsent_isnt_served : AreServed 2 ((64, said 1) ∷ []) ((64, said 1) ∷ []) → ⊥
+pub unsent_isnt_served : AreServed 2 ((64, said 1) ∷ []) (made_so (said 1) nothing_heard ∷ []) → ⊥
 unfolding lacks after_start after_part after_complete
 unsent_isnt_served served = let fewer = (served.1.0.part refl).parts in cc
 
@@ -144,19 +142,26 @@ unfolding lacks after_start after_part after_complete
 completes_come = (refl, refl, refl, refl)
 
 pub completes_are_served :
-    AreServed 0 ((64, split_in false 200) ∷ []) ((64, asked) ∷ [])
-    × AreServed 2 ((64, asked) ∷ []) ((64, heard) ∷ [])
-    × AreServed 3 ((64, heard) ∷ []) ((64, last) ∷ [])
+    AreServed 0 ((64, split_in false 200) ∷ []) (made_so asked nothing_heard ∷ [])
+    × AreServed 2 ((64, asked) ∷ []) (made_so heard first_bytes ∷ [])
+    × AreServed 3 ((64, heard) ∷ []) (made_so last last_bytes ∷ [])
 completes_are_served = (
-  (refl, (one_served 0 (Bytes pids.Data0 []) (split_in false 200), tt)),
-  (refl, (one_served 2 (Bytes pids.Mdata (replicate 188 0)) asked, tt)),
-  (refl, (one_served 3 (Bytes pids.Data0 (replicate 12 0)) heard, tt)),
+  (refl, (one_served 0 64 nothing_heard (split_in false 200), tt)),
+  (refl, (one_served 2 64 first_bytes asked, tt)),
+  (refl, (one_served 3 64 last_bytes heard, tt)),
 )
 
 pub last_bytes_end : (heard.active ≡ true) × (heard.total ≡ 12) × (last.active ≡ false) × (last.total ≡ 0)
 unfolding lacks after_start after_part after_complete
 last_bytes_end = (refl, refl, refl, refl)
 
-pub unmarked_isnt_served : AreServed 2 ((64, asked) ∷ []) ((64, asked) ∷ []) → ⊥
+pub unmarked_isnt_served : AreServed 2 ((64, asked) ∷ []) (made_so asked first_bytes ∷ []) → ⊥
 unfolding lacks after_start after_part after_complete
-unmarked_isnt_served served = let marked = served.1.0.completed refl refl in cc
+unmarked_isnt_served served = let marked = (served.1.0.completed refl refl).marked in cc
+
+-- the first of two answers doesn't end it, also in the last microframe of its C-mask
+pub ended_isnt_served : AreServed 2 ((64, asked) ∷ []) (made_so (record heard { active = false }) first_bytes ∷ []) → ⊥
+unfolding lacks after_start after_part after_complete
+ended_isnt_served served =
+    let goes_on = ((served.1.0.completed refl refl).more (replicate 188 0) refl (omega arith)).1 in
+    false≢true goes_on
