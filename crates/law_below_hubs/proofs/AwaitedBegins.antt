@@ -1,12 +1,13 @@
 -- Where a microframe begins, the work of the hubs leaves what a host awaits of its key.
 use Rattle.std.proofs.Common.{◌≡◌, ◌≢◌, ℕ, zero, suc, true, List, [], ◌∷◌}
-use Rattle.std.proofs.Common.{Option, Some, None, ap, refl, sym, subst, ◌∙◌, inl, inr}
+use Rattle.std.proofs.Common.{Option, Some, None, ap, refl, sym, subst, ◌∙◌, Bool}
 use Rattle.std.proofs.lemmas.Bool.{false≢true}
 use Rattle.usb_base.specs.declared.packets.Dir.{Dir}
 use Rattle.usb_base.specs.declared.packets.Pid.{Pid}
 use Rattle.usb_base.specs.declared.packets.Pid.TheVariants as Pids
 use Rattle.usb_base.specs.declared.packets.Reply.{Reply}
 use Rattle.usb_base.specs.declared.packets.Reply.TheVariants as Replies
+use Rattle.drv_table.specs.Words.{is_control}
 use Rattle.hub_keys.specs.Asks.{classic_of}
 use Rattle.hub_keys.specs.Keys.{key_of}
 use Rattle.hub_keys.specs.declared.key.Key.{Key}
@@ -27,16 +28,12 @@ use Rattle.law_translated.specs.KeySteps.KeyTurn.{rests as turn_rests, works as 
 use Rattle.law_translated.specs.KeySteps.Showing.{stays as shown_stays, shows as shown_shows}
 use Rattle.law_translated.proofs.HubCalls.{none_work, hub_work, asked_at}
 use Rattle.law_below_hubs.specs.Raised.{transacts_below}
-use Rattle.law_below_hubs.specs.Awaited.{suits, IsAwaited, StandsAs, IsOfWay, HasEnd}
+use Rattle.law_below_hubs.specs.Awaited.{suits, IsAwaited, StandsAs, IsTokenOf, of_in, of_out, of_setup, IsOfWay, HasEnd}
 use Rattle.law_below_hubs.specs.Awaited.{BeginLeavesKey}
 use Rattle.law_below_hubs.specs.HubsKeys.{HubsHaveNone, HubsHave}
 use Rattle.law_below_hubs.proofs.AwaitedEnds.{below_keeps_end, begun_keeps_end, answers_suit}
 use Rattle.law_below_hubs.proofs.HubsWork.{hub_made}
 use Rattle.law_below_hubs.proofs.Moves.{stays_below}
-
--- of a key's direction
-abbrev IsOf : Pid → Dir → Type 0
-IsOf pid dir = IsOfWay (Some pid) dir
 
 not_silent : (r : Reply) → is_answer Buffered r ≡ true → r ≢ Replies.Silent
 not_silent r on is = false≢true (sym (ap (is_answer Buffered) is) ∙ on)
@@ -44,31 +41,35 @@ not_silent r on is = false≢true (sym (ap (is_answer Buffered) is) ∙ on)
 not_nyet : (r : Reply) → is_answer Buffered r ≡ true → r ≢ Replies.Hand Pids.Nyet
 not_nyet r on is = false≢true (sym (ap (is_answer Buffered) is) ∙ on)
 
-stall_suits : (token : Pid) (dir : Dir) → IsOf token dir → suits token (Replies.Hand Pids.Stall) ≡ true
-stall_suits token dir (inl k) = ap (λ (p : Pid). suits p (Replies.Hand Pids.Stall)) k.0
-stall_suits token dir (inr k) = ap (λ (p : Pid). suits p (Replies.Hand Pids.Stall)) k.0
+stall_suits : (control : Bool) (token : Pid) (dir : Dir) → IsTokenOf control token dir → suits token (Replies.Hand Pids.Stall) ≡ true
+stall_suits control token dir (of_in is way) = ap (λ (p : Pid). suits p (Replies.Hand Pids.Stall)) is
+stall_suits control token dir (of_out is way) = ap (λ (p : Pid). suits p (Replies.Hand Pids.Stall)) is
+stall_suits control token dir (of_setup on is way) = ap (λ (p : Pid). suits p (Replies.Hand Pids.Stall)) is
 
-module _ (k : Key) (o : Option Pid) (of : IsOfWay o k.dir) where
+module _ (k : Key) (o : Option Pid) (of : IsOfWay (is_control k.kind) o k.dir) where
+  abbrev control : Bool
+  control = is_control k.kind
+
   abbrev Ends : Below → Type 0
-  Ends w = HasEnd k.dir w.fixed w.floor.devices k.addr k.ep
+  Ends w = HasEnd (is_control k.kind) k.dir w.fixed w.floor.devices k.addr k.ep
 
   others_keep : (w v : Below) → OfOthers transacts_below k w v → Ends w → Ends v
   others_keep w _ (no_others _) ends = ends
   others_keep w v (more_others _ u _ ask out reply apart made rest) ends =
-      others_keep u v rest (below_keeps_end k.dir w (classic_of ask) out reply u k.addr k.ep made ends)
+      others_keep u v rest (below_keeps_end (is_control k.kind) k.dir w (classic_of ask) out reply u k.addr k.ep made ends)
 
   abbrev asked : Taken → KeySlot
   asked a = Asked a
 
   answer_suits : (w : Below) (a : Taken) (r : Reply) (v : Below) → key_of a.ask ≡ k → transacts_below w (classic_of a.ask) a.packet r v
-      → is_answer Buffered r ≡ true → Ends w → (pid : Pid) → IsOf pid k.dir → a.ask.pid ≡ pid → suits pid r ≡ true
+      → is_answer Buffered r ≡ true → Ends w → (pid : Pid) → IsTokenOf (is_control k.kind) pid k.dir → a.ask.pid ≡ pid → suits pid r ≡ true
   answer_suits w a r v own made on ends pid way token =
-      let here : HasEnd k.dir w.fixed w.floor.devices a.ask.addr a.ask.ep =
-      subst (λ (n : ℕ). HasEnd k.dir w.fixed w.floor.devices n a.ask.ep) (sym (ap (λ (c : Key). c.addr) own))
-      (subst (λ (n : ℕ). HasEnd k.dir w.fixed w.floor.devices k.addr n) (sym (ap (λ (c : Key). c.ep) own)) ends) in
+      let here : HasEnd (is_control k.kind) k.dir w.fixed w.floor.devices a.ask.addr a.ask.ep =
+      subst (λ (n : ℕ). HasEnd (is_control k.kind) k.dir w.fixed w.floor.devices n a.ask.ep) (sym (ap (λ (c : Key). c.addr) own))
+      (subst (λ (n : ℕ). HasEnd (is_control k.kind) k.dir w.fixed w.floor.devices k.addr n) (sym (ap (λ (c : Key). c.ep) own)) ends) in
       let known : below_reply w (classic_of a.ask) a.packet ≡ r = sym made.heard in
       ap (suits pid) (sym known)
-      ∙ answers_suit k.dir pid w (classic_of a.ask) a.packet token way here
+      ∙ answers_suit (is_control k.kind) k.dir pid w (classic_of a.ask) a.packet token way (λ on. refl) here
       (λ silent. not_silent r on (sym known ∙ silent)) (λ nyet. not_nyet r on (sym known ∙ nyet))
 
   -- what its turn leaves of the slot
@@ -76,20 +77,20 @@ module _ (k : Key) (o : Option Pid) (of : IsOfWay o k.dir) where
       → StandsAs o s → StandsAs o new × Ends v
   turned s w _ _ own turn_rests ends stands = (stands, ends)
   turned s w _ v own (turn_works a r after is made on) ends stands =
-      (by o of stands, below_keeps_end k.dir w (classic_of a.ask) a.packet r v k.addr k.ep made ends)
+      (by o of stands, below_keeps_end (is_control k.kind) k.dir w (classic_of a.ask) a.packet r v k.addr k.ep made ends)
     where
-      by : (u : Option Pid) → IsOfWay u k.dir → StandsAs u s → StandsAs u (result Buffered a r)
+      by : (u : Option Pid) → IsOfWay (is_control k.kind) u k.dir → StandsAs u s → StandsAs u (result Buffered a r)
       by None way quiet = absurd (subst IsQuiet is quiet)
       by (Some pid) way awaited =
           answer_suits w a r v (subst (IsAskedFor k) is own) made on ends pid way (subst (IsAwaited pid) is awaited)
   turned s w _ v own (turn_quiet a r after way is made off) ends stands =
-      (stands, below_keeps_end k.dir w (classic_of a.ask) a.packet r v k.addr k.ep made ends)
+      (stands, below_keeps_end (is_control k.kind) k.dir w (classic_of a.ask) a.packet r v k.addr k.ep made ends)
   turned s w _ v own (turn_dead a r after is made off) ends stands =
-      (by o of stands, below_keeps_end k.dir w (classic_of a.ask) a.packet r v k.addr k.ep made ends)
+      (by o of stands, below_keeps_end (is_control k.kind) k.dir w (classic_of a.ask) a.packet r v k.addr k.ep made ends)
     where
-      by : (u : Option Pid) → IsOfWay u k.dir → StandsAs u s → StandsAs u (result Buffered a (dead_reply Buffered))
+      by : (u : Option Pid) → IsOfWay (is_control k.kind) u k.dir → StandsAs u s → StandsAs u (result Buffered a (dead_reply Buffered))
       by None way quiet = absurd (subst IsQuiet is quiet)
-      by (Some pid) way awaited = stall_suits pid k.dir way
+      by (Some pid) way awaited = stall_suits (is_control k.kind) pid k.dir way
 
   seen_as : (s new : KeySlot) → Showing Buffered s new → StandsAs o s → StandsAs o new
   seen_as s _ shown_stays stands = stands
@@ -109,7 +110,7 @@ module _ (k : Key) (o : Option Pid) (of : IsOfWay o k.dir) where
 
   module _ (fixed : Fixed) (frindex : ℕ) where
     abbrev On : Floor → Type 0
-    On floor = HasEnd k.dir fixed floor.devices k.addr k.ep
+    On floor = HasEnd (is_control k.kind) k.dir fixed floor.devices k.addr k.ep
 
     -- the bus below keeps what is fixed
     record NoneWorked (hs : List HubContent) (floor : Floor) : Type 0 where
@@ -121,7 +122,8 @@ module _ (k : Key) (o : Option Pid) (of : IsOfWay o k.dir) where
 
     module _ (same : (h : HubContent) (floor : Floor) → (after_hub h floor).fixed ≡ fixed) where
       left_on : (h : HubContent) (floor : Floor) → Ends (after_hub h floor) → On (floor_left fixed h floor)
-      left_on h floor ends = subst (λ (f : Fixed). HasEnd k.dir f (floor_left fixed h floor).devices k.addr k.ep) (same h floor) ends
+      left_on h floor ends =
+          subst (λ (f : Fixed). HasEnd (is_control k.kind) k.dir f (floor_left fixed h floor).devices k.addr k.ep) (same h floor) ends
 
       none_hubs : (hs : List HubContent) (floor : Floor) → On floor → HubsHaveNone Buffered k hs → NoneWorked hs floor
       none_hubs [] floor on none = record { on = on; none = tt }
@@ -170,5 +172,7 @@ begin_leaves_key k i place frindex w o of z =
       slot = r.slot;
       has = r.has;
       stands = r.stands;
-      ends = begun_keeps_end k.dir w.fixed frindex (floor_worked w.fixed w.bus.hubs (floor_of w.bus)).devices k.addr k.ep r.on;
+      ends =
+          begun_keeps_end (is_control k.kind) k.dir w.fixed frindex
+          (floor_worked w.fixed w.bus.hubs (floor_of w.bus)).devices k.addr k.ep r.on;
     }

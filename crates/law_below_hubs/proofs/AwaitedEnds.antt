@@ -3,14 +3,14 @@ use Rattle.std.proofs.Common.{◌≡◌, ◌≢◌, ℕ, Bool, true, false, if�
 use Rattle.std.proofs.Common.{ap, refl, sym, subst, ◌∙◌, ⊎_elim, inl, inr}
 use Rattle.std.specs.Prelude.{◌⊎◌, is_some}
 use Rattle.std.specs.Option.{option_and_then, option_map}
-use Rattle.std.proofs.lemmas.Bool.{cases_eq, eq-eqb}
+use Rattle.std.proofs.lemmas.Bool.{cases_eq, eq-eqb, false≢true}
 use Rattle.usb_base.specs.declared.packets.Ask.{Ask}
 use Rattle.usb_base.specs.declared.packets.Dir.{Dir}
 use Rattle.usb_base.specs.declared.packets.Dir.TheVariants as Directions
 use Rattle.usb_base.specs.declared.packets.Pid.{Pid}
 use Rattle.usb_base.specs.declared.packets.Pid.TheVariants as Pids
 use Rattle.usb_base.specs.declared.packets.Reply.{Reply}
-use Rattle.usb_base.specs.declared.packets.Reply.TheVariants.{Silent, Bytes, Hand}
+use Rattle.usb_base.specs.declared.packets.Reply.TheVariants.{Silent, Hand}
 use Rattle.usb_base.specs.declared.packets.Speed.{Speed}
 use Rattle.usb_base.specs.declared.packets.Speed.TheVariants.{High, Full, Low}
 use Rattle.usb_base.specs.declared.packets.Split.{Split}
@@ -18,7 +18,8 @@ use Rattle.usb_base.specs.declared.packets.Split.TheVariants.{Plain, Start, Comp
 use Rattle.usb_base.specs.declared.packets.Way.TheVariants as Ways
 use Rattle.script_types.specs.declared.devices.Item.{Item}
 use Rattle.script_types.specs.declared.devices.Item.TheVariants as items
-use Rattle.dev_control.specs.Stages.{token_of, data_pid, sequence_of}
+use Rattle.dev_control.specs.declared.rows.StageToken.TheVariants as Stage
+use Rattle.dev_control.specs.Stages.{token_of, sequence_of}
 use Rattle.endpoint_script.specs.declared.endpoint.Endpoint.{Endpoint}
 use Rattle.endpoint_script.specs.declared.endpoint.Role.{Role}
 use Rattle.endpoint_script.specs.declared.rows.TakeRow.{TakeRow}
@@ -31,14 +32,15 @@ use Rattle.bus_wire.specs.declared.asked.Answerer.TheVariants as Answerers
 use Rattle.bus_wire.specs.declared.asked.Asked.{Asked}
 use Rattle.bus_wire.specs.declared.seats.Seat.{Seat}
 use Rattle.bus_wire.specs.declared.seats.TokenKind.TheVariants as Tokens
-use Rattle.bus_wire.specs.declared.who_heard.WhoHeard.{WhoHeard}
-use Rattle.bus_wire.specs.declared.who_heard.WhoHeard.TheVariants as Rows
 use Rattle.bus_wire.specs.Asking.{device_answer}
 use Rattle.bus_wire.specs.Below.{Below, hears_at, asked_below_at, asked_below, floor_answer, below_row, below_reply_at, below_reply}
 use Rattle.bus_wire.specs.Bus.{Wired, begun_at}
 use Rattle.bus_wire.specs.Fixed.{Fixed}
 use Rattle.bus_wire.specs.Seats.{token_kind, place_for}
 use Rattle.bus_wire.specs.WhoHeard.{asker_hears}
+use Rattle.claims_report.specs.ControlSides.{Device as Side}
+use Rattle.law_request.specs.Host.{Endpoint as Controlled}
+use Rattle.law_devices.specs.request_calls.Bus.{IsAskFor, IsControlBus}
 use Rattle.law_ring.specs.Bus.{Sender, IsStreamAsk, IsBus, HasAnswered}
 use Rattle.law_ring.specs.OutBus.{Taker, IsOutAsk, IsOutBus, HasTaken}
 use Rattle.law_devices.specs.Senders.{sender_of_device}
@@ -46,9 +48,13 @@ use Rattle.law_devices.specs.scripted_takers.Takers.{taker_of_device}
 use Rattle.law_devices.specs.scripted_requests.Controls.{transacts_by}
 use Rattle.law_devices.proofs.Asking.{IsAtDevice, device_found}
 use Rattle.law_devices.proofs.lemmas.scripted_takers.Asking as Takers
-use Rattle.law_below_hubs.specs.Awaited.{suits, HasEnd, AnswersSuit}
+use Rattle.law_below_hubs.specs.Awaited.{suits, IsTokenOf, of_in, of_out, of_setup, HasEnd, AnswersSuit}
 use Rattle.law_below_hubs.specs.Raised.{transacts_below}
 use Rattle.law_below_hubs.specs.Seated.{end_in}
+use Rattle.law_below_hubs.specs.SeatedControls.{control_in, control_at, control_on}
+use Rattle.law_below_hubs.proofs.AwaitedControls.{data_suits, reply_or, IsToken, by_setup, by_in, by_out, control_suits}
+use Rattle.law_below_hubs.proofs.ControlBegin.{begun_control}
+use Rattle.law_below_hubs.proofs.ControlBuses.{controls_on, controls_at}
 use Rattle.law_below_hubs.proofs.HighBuses.{senders_above, takers_above}
 use Rattle.law_below_hubs.proofs.InBegin.{begun_sender}
 use Rattle.law_below_hubs.proofs.LowBuses.{all_senders_below, all_takers_below, asked_or_not}
@@ -116,6 +122,26 @@ asked_out addr ep ask =
     (λ (other : ask.pid ≢ Pids.Out). inr (λ (k : IsOutAsk always ask) at. other k.token)) (is_out ask.pid))
     (λ (split : ask.split ≢ Plain). inr (λ (k : IsOutAsk always ask) at. split k.plain)) (split_is ask.split)
 
+token_or : (pid : Pid) → (token_of pid ≡ Stage.Other) ⊎ (token_of pid ≢ Stage.Other)
+token_or Pids.Setup = inr (λ e. cc)
+token_or Pids.In = inr (λ e. cc)
+token_or Pids.Out = inr (λ e. cc)
+token_or Pids.Ping = inr (λ e. cc)
+token_or _ = inl refl
+
+asked_control : (addr num : ℕ) (ask : Ask) → IsAskFor addr num ask ⊎ (IsAskFor addr num ask → ⊥)
+asked_control addr num ask =
+    ⊎_elim
+    (λ (plain : ask.split ≡ Plain).
+    ⊎_elim (λ (other : token_of ask.pid ≡ Stage.Other). inr (λ (k : IsAskFor addr num ask). k.token other))
+    (λ (token : token_of ask.pid ≢ Stage.Other).
+    ⊎_elim
+    (λ (a : addr ≡ ask.addr).
+    ⊎_elim (λ (e : num ≡ ask.ep). inl (record { plain = plain; token = token; address = a; number = e }))
+    (λ (differs : num ≢ ask.ep). inr (λ (k : IsAskFor addr num ask). differs k.number)) (cases_eq num ask.ep))
+    (λ (differs : addr ≢ ask.addr). inr (λ (k : IsAskFor addr num ask). differs k.address)) (cases_eq addr ask.addr)) (token_or ask.pid))
+    (λ (split : ask.split ≢ Plain). inr (λ (k : IsAskFor addr num ask). split k.plain)) (split_is ask.split)
+
 module _ {W : Type 0} (transacts : W → Ask → List ℕ → Reply → W → Type 0) (w : W) (ask : Ask) (out : List ℕ) (reply : Reply) (v : W)
     (made : transacts w ask out reply v) (addr ep : ℕ) where
   sender_stays : (sender : W → ℕ → ℕ → Option Sender) → IsBus transacts always sender → is_some (sender w addr ep) ≡ true
@@ -144,38 +170,54 @@ module _ {W : Type 0} (transacts : W → Ask → List ℕ → Reply → W → Ty
       (λ (other : IsOutAsk always ask → (addr ≡ ask.addr) × (ep ≡ ask.ep) → ⊥).
       is_there (taker v addr ep) s.value (bus.others w ask out reply v addr ep s.value made refl s.is other)) (asked_out addr ep ask)
 
-pub ask_keeps_end : (dir : Dir) (w : Wired) (ask : Ask) (out : List ℕ) (reply : Reply) (v : Wired) (addr ep : ℕ)
-    → transacts_by w ask out reply v → HasEnd dir w.fixed w.bus.devices addr ep → HasEnd dir v.fixed v.bus.devices addr ep
-ask_keeps_end Directions.In w ask out reply v addr ep made some =
+  control_stays : (control : W → ℕ → ℕ → Option Side) → IsControlBus transacts control → is_some (control w addr ep) ≡ true
+      → is_some (control v addr ep) ≡ true
+  control_stays control bus some =
+      let s : IsThere (control w addr ep) = there_is (control w addr ep) some in
+      let e : Controlled = record { addr = addr; num = ep; max = 0; known = s.value.known } in
+      ⊎_elim
+      (λ (k : IsAskFor addr ep ask).
+      is_there (control v addr ep) _ (bus.asked w ask out reply v e s.value.stages made k s.is).left)
+      (λ (other : IsAskFor addr ep ask → ⊥).
+      is_there (control v addr ep) s.value (bus.others w ask out reply v addr ep s.value made s.is other))
+      (asked_control addr ep ask)
+
+pub ask_keeps_end : (control : Bool) (dir : Dir) (w : Wired) (ask : Ask) (out : List ℕ) (reply : Reply) (v : Wired) (addr ep : ℕ)
+    → transacts_by w ask out reply v → HasEnd control dir w.fixed w.bus.devices addr ep → HasEnd control dir v.fixed v.bus.devices addr ep
+ask_keeps_end false Directions.In w ask out reply v addr ep made some =
     sender_stays transacts_by w ask out reply v made addr ep (λ x a n. end_in sender_of_device Tokens.In x.fixed x.bus.devices a n)
     (senders_above always) some
-ask_keeps_end Directions.Out w ask out reply v addr ep made some =
+ask_keeps_end false Directions.Out w ask out reply v addr ep made some =
     taker_stays transacts_by w ask out reply v made addr ep (λ x a n. end_in taker_of_device Tokens.Out x.fixed x.bus.devices a n)
     (takers_above always) some
+ask_keeps_end true dir w ask out reply v addr ep made some =
+    control_stays transacts_by w ask out reply v made addr ep control_at controls_at some
 
-pub below_keeps_end : (dir : Dir) (w : Below) (ask : Ask) (out : List ℕ) (reply : Reply) (v : Below) (addr ep : ℕ)
-    → transacts_below w ask out reply v → HasEnd dir w.fixed w.floor.devices addr ep → HasEnd dir v.fixed v.floor.devices addr ep
-below_keeps_end Directions.In w ask out reply v addr ep made some =
+pub below_keeps_end : (control : Bool) (dir : Dir) (w : Below) (ask : Ask) (out : List ℕ) (reply : Reply) (v : Below) (addr ep : ℕ)
+    → transacts_below w ask out reply v → HasEnd control dir w.fixed w.floor.devices addr ep
+    → HasEnd control dir v.fixed v.floor.devices addr ep
+below_keeps_end false Directions.In w ask out reply v addr ep made some =
     sender_stays transacts_below w ask out reply v made addr ep (λ x a n. end_in sender_of_device Tokens.In x.fixed x.floor.devices a n)
     (all_senders_below always) some
-below_keeps_end Directions.Out w ask out reply v addr ep made some =
+below_keeps_end false Directions.Out w ask out reply v addr ep made some =
     taker_stays transacts_below w ask out reply v made addr ep (λ x a n. end_in taker_of_device Tokens.Out x.fixed x.floor.devices a n)
     (all_takers_below always) some
+below_keeps_end true dir w ask out reply v addr ep made some =
+    control_stays transacts_below w ask out reply v made addr ep control_on controls_on some
 
-pub begun_keeps_end : (dir : Dir) (fixed : Fixed) (frindex : ℕ) (devices : List Device) (addr ep : ℕ) → HasEnd dir fixed devices addr ep
-    → HasEnd dir fixed (map (begun_at frindex) devices) addr ep
-begun_keeps_end Directions.In fixed frindex devices addr ep some =
+pub begun_keeps_end : (control : Bool) (dir : Dir) (fixed : Fixed) (frindex : ℕ) (devices : List Device) (addr ep : ℕ)
+    → HasEnd control dir fixed devices addr ep → HasEnd control dir fixed (map (begun_at frindex) devices) addr ep
+begun_keeps_end false Directions.In fixed frindex devices addr ep some =
     let s : IsThere (end_in sender_of_device Tokens.In fixed devices addr ep) = there_is _ some in
     is_there _ s.value (begun_sender fixed frindex devices addr ep s.value s.is)
-begun_keeps_end Directions.Out fixed frindex devices addr ep some =
+begun_keeps_end false Directions.Out fixed frindex devices addr ep some =
     let s : IsThere (end_in taker_of_device Tokens.Out fixed devices addr ep) = there_is _ some in
     is_there _ s.value (begun_taker fixed frindex devices addr ep s.value s.is)
+begun_keeps_end true dir fixed frindex devices addr ep some =
+    let s : IsThere (control_in fixed devices addr ep) = there_is _ some in
+    is_there _ s.value (begun_control fixed frindex devices addr ep s.value s.is)
 
 -- ---- what a device answers
-
-data_suits : (b : Bool) (bytes : List ℕ) → suits Pids.In (Bytes (data_pid b) bytes) ≡ true
-data_suits true bytes = refl
-data_suits false bytes = refl
 
 sent_suits : (toggle : Bool) (xs : List Item) → suits Pids.In (sent_reply toggle xs) ≡ true
 sent_suits toggle (items.Bytes bytes ∷ xs) = data_suits toggle bytes
@@ -208,14 +250,6 @@ row_suits speed rows.TakesLast = last_suits speed
 row_suits speed rows.HasRoom = inr refl
 
 -- ---- who answers below
-
-reply_or : (row : WhoHeard) (answer : Reply) → (asker_hears row answer ≡ Silent) ⊎ (asker_hears row answer ≡ answer)
-reply_or Rows.SentUnheard answer = inl refl
-reply_or Rows.NoAnswer answer = inl refl
-reply_or Rows.AnswerUnheard answer = inl refl
-reply_or Rows.AnswerHeard answer = inr refl
-reply_or Rows.AckUnheard answer = inr refl
-reply_or Rows.AckHeard answer = inr refl
 
 module _ (w : Below) (ask : Ask) (out : List ℕ) (place : ℕ) (seat : Seat) (n : ℕ)
     (found : place_for w.fixed.seats ask.addr ask.ep (token_kind ask.pid) ≡ Some place)
@@ -266,7 +300,7 @@ module _ (w : Below) (ask : Ask) (out : List ℕ) (place : ℕ) (seat : Seat) (n
 -- ---- the law
 
 module _ (w : Below) (ask : Ask) (out : List ℕ) where
-  sender_heard : ask.pid ≡ Pids.In → HasEnd Directions.In w.fixed w.floor.devices ask.addr ask.ep → below_reply w ask out ≢ Silent
+  sender_heard : ask.pid ≡ Pids.In → HasEnd false Directions.In w.fixed w.floor.devices ask.addr ask.ep → below_reply w ask out ≢ Silent
       → suits ask.pid (below_reply w ask out) ≡ true
   sender_heard token some answered =
       let s : IsThere (end_in sender_of_device Tokens.In w.fixed w.floor.devices ask.addr ask.ep) = there_is _ some in
@@ -293,7 +327,7 @@ module _ (w : Below) (ask : Ask) (out : List ℕ) where
       (ap (λ (pid : Pid). place_for w.fixed.seats ask.addr ask.ep (token_kind pid)) token ∙ h.found) h.there
       (asked_or_not w h.seat.owner h.n h.owner))
 
-  taker_heard : ask.pid ≡ Pids.Out → HasEnd Directions.Out w.fixed w.floor.devices ask.addr ask.ep → below_reply w ask out ≢ Silent
+  taker_heard : ask.pid ≡ Pids.Out → HasEnd false Directions.Out w.fixed w.floor.devices ask.addr ask.ep → below_reply w ask out ≢ Silent
       → below_reply w ask out ≢ Hand Pids.Nyet → suits ask.pid (below_reply w ask out) ≡ true
   taker_heard token some answered known =
       let s : IsThere (end_in taker_of_device Tokens.Out w.fixed w.floor.devices ask.addr ask.ep) = there_is _ some in
@@ -323,10 +357,28 @@ module _ (w : Below) (ask : Ask) (out : List ℕ) where
       (ap (λ (pid : Pid). place_for w.fixed.seats ask.addr ask.ep (token_kind pid)) token ∙ h.found) h.there
       (asked_or_not w h.seat.owner h.n h.owner))
 
+-- ---- a control endpoint
+
+control_heard : (w : Below) (ask : Ask) (out : List ℕ) → ask.split ≡ Plain → IsToken ask.pid
+    → is_some (control_in w.fixed w.floor.devices ask.addr ask.ep) ≡ true
+    → below_reply w ask out ≢ Silent → suits ask.pid (below_reply w ask out) ≡ true
+control_heard w ask out plain token some answered =
+    let s : IsThere (control_in w.fixed w.floor.devices ask.addr ask.ep) = there_is _ some in
+    control_suits w ask out plain token s.value s.is answered
+
 pub answers_suit : AnswersSuit
-answers_suit dir pid w ask out token (inl k) some answered known =
+answers_suit false dir pid w ask out token (of_in is way) plain some answered known =
     ap (λ (p : Pid). suits p (below_reply w ask out)) (sym token)
-    ∙ sender_heard w ask out (token ∙ k.0) (subst (λ (d : Dir). HasEnd d w.fixed w.floor.devices ask.addr ask.ep) k.1 some) answered
-answers_suit dir pid w ask out token (inr k) some answered known =
+    ∙ sender_heard w ask out (token ∙ is) (subst (λ (d : Dir). HasEnd false d w.fixed w.floor.devices ask.addr ask.ep) way some) answered
+answers_suit false dir pid w ask out token (of_out is way) plain some answered known =
     ap (λ (p : Pid). suits p (below_reply w ask out)) (sym token)
-    ∙ taker_heard w ask out (token ∙ k.0) (subst (λ (d : Dir). HasEnd d w.fixed w.floor.devices ask.addr ask.ep) k.1 some) answered known
+    ∙ taker_heard w ask out (token ∙ is) (subst (λ (d : Dir). HasEnd false d w.fixed w.floor.devices ask.addr ask.ep) way some) answered
+    known
+answers_suit false dir pid w ask out token (of_setup on is way) plain some answered known = absurd (false≢true on)
+answers_suit true dir pid w ask out token way plain some answered known =
+    ap (λ (p : Pid). suits p (below_reply w ask out)) (sym token) ∙ control_heard w ask out (plain refl) (by way) some answered
+  where
+    by : IsTokenOf true pid dir → IsToken ask.pid
+    by (of_in is way) = subst IsToken (sym (token ∙ is)) by_in
+    by (of_out is way) = subst IsToken (sym (token ∙ is)) by_out
+    by (of_setup on is way) = subst IsToken (sym (token ∙ is)) by_setup

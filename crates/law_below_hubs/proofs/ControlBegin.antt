@@ -65,7 +65,8 @@ begun_from frindex None addr num s is = absurd cc
 begun_from frindex (Some d) addr num s is =
     begun_by (begins_anew d.speed frindex) d addr num s (device_found addr num (Some d) s is)
 
-begun_control : (fixed : Fixed) (frindex : ℕ) (devices : List Device) (addr num : ℕ) (s : Side) → control_in fixed devices addr num ≡ Some s
+pub begun_control : (fixed : Fixed) (frindex : ℕ) (devices : List Device) (addr num : ℕ) (s : Side)
+    → control_in fixed devices addr num ≡ Some s
     → control_in fixed (map (begun_at frindex) devices) addr num ≡ Some s
 begun_control fixed frindex devices addr num s is =
     let h : IsControlSeated fixed devices addr num s = control_seated fixed devices addr num s is in

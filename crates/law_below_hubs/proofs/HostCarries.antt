@@ -52,16 +52,16 @@ apart_host (Settled c z) n q apart =
     ap (λ (b : Bool). if b then z.host else host_in q) (other_number c.at n (λ same. apart c z refl same))
 apart_host _ n q apart = refl
 
-unsettled_apart : (hand : Hand) (n : ℕ) → IsUnsettled hand → IsApart hand n
+pub unsettled_apart : (hand : Hand) (n : ℕ) → IsUnsettled hand → IsApart hand n
 unsettled_apart hand n un c z is at = un c z is
 
-settled_apart : (hand : Hand) (n : ℕ) (c : Copy) (z : Settlement) → hand ≡ Settled c z → c.at ≢ n → IsApart hand n
+pub settled_apart : (hand : Hand) (n : ℕ) (c : Copy) (z : Settlement) → hand ≡ Settled c z → c.at ≢ n → IsApart hand n
 settled_apart hand n c z is differs d y also at = differs (same c d (sym is ∙ also) ∙ at)
   where
     same : (c d : Copy) → Settled c z ≡ Settled d y → c.at ≡ d.at
     same c d e = cc
 
-copied_settled : (hand : Hand) (c d : Copy) (z : Settlement) → hand ≡ Copied d → hand ≡ Settled c z → ⊥
+pub copied_settled : (hand : Hand) (c d : Copy) (z : Settlement) → hand ≡ Copied d → hand ≡ Settled c z → ⊥
 copied_settled hand c d z one other = by (sym one ∙ other)
   where
     by : Copied d ≡ Settled c z → ⊥

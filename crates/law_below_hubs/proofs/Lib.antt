@@ -56,9 +56,12 @@ pub mod FramesSend
 pub mod HostCarries
 pub mod OutEvents
 pub mod InEvents
+pub mod AwaitedControls
 pub mod AwaitedEnds
+pub mod AwaitedSettles
 pub mod AwaitedKeys
 pub mod AwaitedBegins
+pub mod AwaitedHeads
 pub mod AwaitedEvents
 pub mod WorkedHosts
 pub mod WorkedRequests
