@@ -103,7 +103,7 @@ SAYS = {
     "misses": "At each moment each line that tells a missed microframe is of an endpoint at low or full speed, whatever a script loses, holds and asks.",
     "errors": "Where no line of a script loses or damages a packet between the controller and a hub or a device at high speed, and no interrupt endpoint at high speed ever answers with NYET: at each moment each line "
               "that tells `halt error` is of an endpoint at low or full speed, whatever is lost below translators, and whatever the script holds, cancels and asks of hubs. Where, besides, none of its `control` lines to a hub of the "
-              "script is a request that clears a buffer (CLEAR_TT_BUFFER) or resets a translator (RESET_TT), it is of an interrupt or control endpoint there: no bulk endpoint uses up its errors, whatever is lost below translators, and "
+              "script is a request that clears a buffer (CLEAR_TT_BUFFER) or resets a translator (RESET_TT), it is of an interrupt endpoint there: no bulk or control endpoint uses up its errors, whatever is lost below translators, and "
               "whatever the script answers with NAK, holds, cancels and asks of hubs besides.",
     "requests": "Whatever a script opens: at each moment a device that is no hub acted on each request of its control endpoint at high speed at most once, and on nothing but its setup bytes; "
                 "a request that is told done was acted on exactly once, with all its data, and one that halted tells a beginning of them, in the order in which they were asked, also of an endpoint that was cancelled; "

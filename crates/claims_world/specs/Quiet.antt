@@ -8,18 +8,19 @@
 --     ErrorsAreBelow d           each line that tells a halt by errors is of an endpoint at low or full speed
 --     ErrorsAreBelowThroughout   so it is at each moment of the run of a script
 --
--- Below hubs the same holds of bulk endpoints, where their hubs keep what they have (USB 2.0, 11.17 and 11.24.2): the answer to a
--- start-split is ACK or NAK, and each complete-split finds what is still there.
+-- Below hubs the same holds of bulk and control endpoints, where their hubs keep what they have (USB 2.0, 11.17 and 11.24.2): the answer to
+-- a start-split is ACK or NAK, and each complete-split finds what is still there.
 --     LeavesBuffers s            no line is a request to a hub of the script that clears a buffer, or resets a translator
---     is_unfailing x             an endpoint at high speed, or a bulk one
+--     is_unfailing x             an endpoint at high speed, or none that is an interrupt one
 --     WhereBuffersStay so s      so, where that is so
---     ErrorsSpareBulk d          each line that tells a halt by errors is of an interrupt or control endpoint at low or full speed
---     ErrorsSpareBulkThroughout  so it is at each moment of the run of a script
+--     ErrorsAreOfInterrupts d    each line that tells a halt by errors is of an interrupt endpoint at low or full speed
+--     ErrorsAreOfInterruptsThroughout      so it is at each moment of the run of a script
 --     KeepsErrors s              both: above, and below
-use Rattle.std.specs.Prelude.{◌≡◌, ℕ, ◌||◌, Bool, true, false, slice_get, Some}
+use Rattle.std.specs.Prelude.{◌≡◌, ℕ, ◌||◌, not, Bool, true, false, slice_get, Some}
 use Rattle.std.specs.List.{AllByRecursion, list_any}
 use Rattle.usb_base.specs.declared.endpoints.EndCause.TheVariants as causes
 use Rattle.usb_base.specs.declared.endpoints.EpDesc.{EpDesc}
+use Rattle.usb_base.specs.declared.packets.EpKind.{EpKind}
 use Rattle.usb_base.specs.declared.packets.EpKind.TheVariants.{Interrupt}
 use Rattle.usb_base.specs.declared.packets.Speed.TheVariants.{High}
 use Rattle.usb_base.specs.declared.reports.Report.{Report}
@@ -33,7 +34,7 @@ use Rattle.drv_table.specs.DriverContent.{DriverContent}
 use Rattle.drv_table.specs.Words.{is_high}
 use Rattle.bus_world.specs.Budgets.{moment}
 use Rattle.claims_answers.specs.Hearing.{gets_through}
-use Rattle.claims_world.specs.BelowStreams.{is_bulk, SparesHub}
+use Rattle.claims_world.specs.BelowStreams.{SparesHub}
 use Rattle.claims_world.specs.Misses.{IsLineOf}
 
 -- ---- the script
@@ -70,18 +71,22 @@ ErrorsAreBelow d = (i : ℕ) (line : Report) → slice_get d.reports i ≡ Some 
 abbrev pub ErrorsAreBelowThroughout : Script → Type 0
 ErrorsAreBelowThroughout s = (k : ℕ) → ErrorsAreBelow (moment s k).world.driver
 
-abbrev pub is_unfailing : EpDesc → Bool
-is_unfailing x = is_high x.speed || is_bulk x.kind
+abbrev pub is_interrupt : EpKind → Bool
+is_interrupt Interrupt = true
+is_interrupt _ = false
 
-abbrev pub ErrorsSpareBulk : DriverContent → Type 0
-ErrorsSpareBulk d = (i : ℕ) (line : Report) → slice_get d.reports i ≡ Some line → line.what ≡ lines.Halt causes.Error
+abbrev pub is_unfailing : EpDesc → Bool
+is_unfailing x = is_high x.speed || not (is_interrupt x.kind)
+
+abbrev pub ErrorsAreOfInterrupts : DriverContent → Type 0
+ErrorsAreOfInterrupts d = (i : ℕ) (line : Report) → slice_get d.reports i ≡ Some line → line.what ≡ lines.Halt causes.Error
     → IsLineOf d line (λ x. is_unfailing x ≡ false)
 
-abbrev pub ErrorsSpareBulkThroughout : Script → Type 0
-ErrorsSpareBulkThroughout s = (k : ℕ) → ErrorsSpareBulk (moment s k).world.driver
+abbrev pub ErrorsAreOfInterruptsThroughout : Script → Type 0
+ErrorsAreOfInterruptsThroughout s = (k : ℕ) → ErrorsAreOfInterrupts (moment s k).world.driver
 
 -- ---- both
 
 pub record KeepsErrors (s : Script) : Type 0 where
   pub above : WhereHeardAbove ErrorsAreBelowThroughout s
-  pub below : WhereHeardAbove (WhereBuffersStay ErrorsSpareBulkThroughout) s
+  pub below : WhereHeardAbove (WhereBuffersStay ErrorsAreOfInterruptsThroughout) s

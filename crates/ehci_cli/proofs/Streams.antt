@@ -17,7 +17,7 @@ use Rattle.claims_world.specs.Ends.{IsEndedOnce, EndsOnceThroughout, EndsOnce}
 use Rattle.app_forms.specs.Scripts.{OfEachPlainScript}
 use Rattle.ehci_cli.proofs.Each.{of_each_plain}
 use Rattle.law_reports.proofs.lemmas.lines.Ended.{texts_end_once}
-use Rattle.law_reports.proofs.lemmas.quiet.AwaitedLines.{texts_spare_bulk}
+use Rattle.law_reports.proofs.lemmas.quiet.AwaitedLines.{texts_spare_buffered}
 use Rattle.law_reports.proofs.lemmas.quiet.Lines.{texts_miss_below, texts_fail_below}
 
 -- what is so of the report of each moment with no order left is so of that after the run
@@ -41,7 +41,7 @@ source_misses_below = of_each_plain MissesAreBelowThroughout texts_miss_below
 pub source_keeps_errors : (words : List (List ℕ)) (left : Option (List ℕ)) → OfEachPlainScript KeepsErrors words left
 source_keeps_errors =
     of_each_plain KeepsErrors
-    (λ text s spelled. record { above = texts_fail_below text s spelled; below = texts_spare_bulk text s spelled })
+    (λ text s spelled. record { above = texts_fail_below text s spelled; below = texts_spare_buffered text s spelled })
 
 pub source_keeps_streams : (words : List (List ℕ)) (left : Option (List ℕ)) → OfEachPlainScript KeepsStreams words left
 source_keeps_streams = of_each_plain KeepsStreams texts_keep_streams

@@ -21,10 +21,10 @@ ghost use Rattle.law_reports.specs.quiet.HeardLaws.{
   TextsAreHeard,
   TextsFailBelow,
 };
-ghost use Rattle.law_reports.specs.quiet.AwaitingLaws.{TextsOpenAwaited, TextsAreAwaited, TextsSpareBulk};
+ghost use Rattle.law_reports.specs.quiet.AwaitingLaws.{TextsHaveHubs, TextsOpenAwaited, TextsAreAwaited, TextsSpareBuffered};
 ghost use Rattle.claims_world.specs.Misses.{MissesAreBelow};
-ghost use Rattle.claims_world.specs.Quiet.{IsHeardAbove, ErrorsAreBelow, LeavesBuffers, ErrorsSpareBulk};
-ghost use Rattle.law_reports.specs.quiet.SparedSamples.{clears_buffer, stick};
+ghost use Rattle.claims_world.specs.Quiet.{IsHeardAbove, ErrorsAreBelow, LeavesBuffers, ErrorsAreOfInterrupts};
+ghost use Rattle.law_reports.specs.quiet.SparedSamples.{clears_buffer, stick, asker};
 ghost use Rattle.law_reports.specs.quiet.HeardSamples.{lost_below, lost_above, answers_nyet, told_of};
 ghost use Rattle.law_reports.specs.quiet.Samples.{missed_of};
 ghost use Rattle.law_world.specs.memory.Samples.{keyboard, disk};
@@ -111,20 +111,25 @@ pub fn a_keyboard_may_fail()
     ensures disk { ErrorsAreBelow (told_of disk) → ⊥ }
 {}
 
-/// Host and hub of each bulk endpoint below a hub stand as they must at each moment of each script whose packets on the high-speed bus all
-/// get through, and none of whose requests takes a key from a hub.
+/// Host and hub of each bulk or control endpoint below a hub stand as they must at each moment of each script whose packets on the
+/// high-speed bus all get through, and none of whose requests takes a key from a hub.
 pub fn texts_are_awaited()
     ensures { TextsAreAwaited }
 {}
 
-/// Before the first line each bulk endpoint that a text opens below a hub has its hub and its end, and nothing is awaited of it.
+/// Each endpoint that a text opens on a device that isn't at high speed is behind a port of a hub of the script.
+pub fn texts_have_hubs()
+    ensures { TextsHaveHubs }
+{}
+
+/// Before the first line each bulk or control endpoint that a text opens below a hub has its hub and its end, and nothing is awaited of it.
 pub fn texts_open_awaited()
     ensures { TextsOpenAwaited }
 {}
 
-/// So each line that tells a halt by errors is of an interrupt or control endpoint below a hub.
-pub fn texts_spare_bulk()
-    ensures { TextsSpareBulk }
+/// So each line that tells a halt by errors is of an interrupt endpoint below a hub.
+pub fn texts_spare_buffered()
+    ensures { TextsSpareBuffered }
 {}
 
 /// Lines that ask nothing of a hub leave its buffers.
@@ -137,8 +142,9 @@ pub fn a_cleared_buffer_breaks_it()
     ensures { LeavesBuffers clears_buffer → ⊥ }
 {}
 
-/// A keyboard below a hub may use up its errors, and a stick with a bulk endpoint there would break the law.
+/// A keyboard below a hub may use up its errors, and a stick with a bulk or control endpoint there would break the law.
 pub fn a_stick_never_fails()
-    ensures keyboard { ErrorsSpareBulk (told_of keyboard) }
-    ensures stick { ErrorsSpareBulk (told_of stick) → ⊥ }
+    ensures keyboard { ErrorsAreOfInterrupts (told_of keyboard) }
+    ensures stick { ErrorsAreOfInterrupts (told_of stick) → ⊥ }
+    ensures asker { ErrorsAreOfInterrupts (told_of asker) → ⊥ }
 {}

@@ -20,11 +20,15 @@ pub mod Sampled
 pub mod HeardSampled
 pub mod AwaitedHearing
 pub mod AwaitedControlled
+pub mod AwaitedSteps
 pub mod AwaitedDriven
 pub mod AwaitedCommanded
+pub mod Unmasked
+pub mod SetupRoom
 pub mod AwaitedErrors
 pub mod AwaitedWorlds
 pub mod HubsDeclared
+pub mod ControlOpens
 pub mod AwaitedOpens
 pub mod AwaitedLines
 pub mod SparedSampled

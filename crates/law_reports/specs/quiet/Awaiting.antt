@@ -1,10 +1,12 @@
--- Worlds whose packets on the high-speed bus all get through, and whose hubs keep their buffers: the host of each bulk endpoint below a hub
--- waits for what its hub has, and no such queue uses up its errors (EHCI 1.0, 3.5.3, 4.10.3 and 4.12; USB 2.0, 8.5, 11.17 and 11.24.2).
---     is_bulk_below x            the endpoint so described is a bulk one of a device that isn't at high speed
---     is_bulk_asked x            a queue head of one: it has no S-mask (3.6.2)
---     code_of way                the PID code of its qTDs
---     KeyAt s wire x             nothing is awaited of the endpoint so described
---     FreshKey ..                so it is of the endpoint of this name
+-- Worlds whose packets on the high-speed bus all get through, and whose hubs keep their buffers: the host of each bulk or control endpoint
+-- below a hub waits for what its hub has, and no such queue uses up its errors (EHCI 1.0, 3.5.3, 4.10.3 and 4.12; USB 2.0, 8.5, 11.17 and
+-- 11.24.2).
+--     is_buffered kind           a kind whose split transactions go through the buffers of a translator
+--     is_buffered_below x        the endpoint so described is of such a kind, and its device isn't at high speed
+--     is_buffered_asked x        a queue head of one: it has no S-mask (3.6.2)
+--     asking_of way              what its qTDs ask
+--     KeysAt s wire x            nothing is awaited of the endpoint so described
+--     FreshKeys ..               so it is of the endpoint of this name
 --     AreNumbered s b            each endpoint has the number of its next packet on the high-speed bus
 --     IsAwaitingAt s wire st y   host and hub of the endpoint stand as they must
 --     AreAwaited s st w          so do those of each that is met; nothing is awaited of one that wasn't opened yet
@@ -12,22 +14,22 @@
 --     IsAwaitedWorld s puts w    the world is so
 use Rattle.std.specs.Prelude.{◌≡◌, ℕ, ◌*◌, ◌==◌, ◌&&◌, not, Bool, true, false, List, slice_get, Some, None}
 use Rattle.usb_base.specs.declared.endpoints.EpDesc.{EpDesc}
+use Rattle.usb_base.specs.declared.packets.Dir.{Dir}
+use Rattle.usb_base.specs.declared.packets.EpKind.{EpKind}
 use Rattle.usb_base.specs.declared.packets.EpKind.TheVariants as kinds
 use Rattle.usb_base.specs.declared.packets.Way.{Way}
 use Rattle.usb_base.specs.declared.packets.Way.TheVariants as ways
 use Rattle.script_types.specs.declared.scripts.Script.{Script}
-use Rattle.hub_keys.specs.Keys.{direction_of}
 use Rattle.hub_class.specs.HubContent.{HubContent}
 use Rattle.bus_wire.specs.declared.seats.Seat.{Seat}
 use Rattle.bus_wire.specs.Bus.{Bus, Wired, fixed_of}
 use Rattle.bus_wire.specs.Seats.{seats_of}
-use Rattle.hc_copy.specs.Planning.{pid_at}
-use Rattle.claims_world.specs.BelowStreams.{is_bulk, heard_clear}
+use Rattle.claims_world.specs.BelowStreams.{heard_clear}
 use Rattle.drv_table.specs.declared.content.Endpoint.{Endpoint}
 use Rattle.drv_table.specs.Words.{is_high}
 use Rattle.law_driver.specs.queued_drivers.Queued.{queued_endpoint, queued}
 use Rattle.law_driver_ring.specs.fed_queues.Places.{IsMet}
-use Rattle.law_below_hubs.specs.Awaited.{KeyStands, IsAwaiting}
+use Rattle.law_below_hubs.specs.Awaited.{KeyStands, Asking, Moves, Controls, its_kind, faces, IsAwaiting}
 use Rattle.law_below_hubs.specs.HostEvents.{told_key}
 use Rattle.law_below_hubs.specs.Splits.{IsAtHub}
 use Rattle.law_microframes.specs.due.repeats.Hearing.{HasNumber}
@@ -45,31 +47,36 @@ use Rattle.law_reports.specs.quiet.Errors.{Key}
 use Rattle.law_reports.specs.quiet.Heard.{AreServed}
 use Rattle.law_reports.specs.quiet.Laws.{HasErrorsLeft}
 
-abbrev pub is_bulk_below : EpDesc → Bool
-is_bulk_below x = is_bulk x.kind && not (is_high x.speed)
+abbrev pub is_buffered : EpKind → Bool
+is_buffered kinds.Bulk = true
+is_buffered kinds.Control = true
+is_buffered _ = false
 
-abbrev pub is_bulk_asked : Key → Bool
-is_bulk_asked x = not (x.eps == 2) && (x.smask == 0 && not x.dtc)
+abbrev pub is_buffered_below : EpDesc → Bool
+is_buffered_below x = is_buffered x.kind && not (is_high x.speed)
+
+abbrev pub is_buffered_asked : Key → Bool
+is_buffered_asked x = not (x.eps == 2) && x.smask == 0
 
 -- (3.5.3)
-abbrev pub code_of : Way → ℕ
-code_of ways.In = 1
-code_of ways.Out = 0
-code_of ways.Ctl = 0
+abbrev pub asking_of : Way → Asking
+asking_of ways.In = Moves 1
+asking_of ways.Out = Moves 0
+asking_of ways.Ctl = Controls
 
 -- ---- one endpoint
 
-abbrev pub KeyAt : Script → Wired → EpDesc → Type 0
-KeyAt s wire x = KeyStands (told_key kinds.Bulk (direction_of (pid_at (code_of x.name.way))) (asked_as x)) (hub_of s x.hub)
-    (place_of s x.hub x.port) wire None
+abbrev pub KeysAt : Script → Wired → EpDesc → Type 0
+KeysAt s wire x = (dir : Dir) → faces (asking_of x.name.way) dir
+    → KeyStands (told_key (its_kind (asking_of x.name.way)) dir (asked_as x)) (hub_of s x.hub) (place_of s x.hub x.port) wire None
 
-abbrev pub FreshKey : Script → Wired → Way → ℕ → ℕ → Type 0
-FreshKey s wire way addr ep = (x : EpDesc) → IsOpened s x → is_bulk_below x ≡ true → x.name.way ≡ way → x.name.addr ≡ addr
-    → x.name.num ≡ ep → KeyAt s wire x
+abbrev pub FreshKeys : Script → Wired → Way → ℕ → ℕ → Type 0
+FreshKeys s wire way addr ep = (x : EpDesc) → IsOpened s x → is_buffered_below x ≡ true → x.name.way ≡ way → x.name.addr ≡ addr
+    → x.name.num ≡ ep → KeysAt s wire x
 
 abbrev pub AwaitsBy : Script → Wired → Standing → EpDesc → ℕ → Way → Type 0
 AwaitsBy s wire st x q way =
-    IsAwaiting (code_of way) wire (hub_of s x.hub) (place_of s x.hub x.port) st.parts (in_hand st) (32 * q) (asked_as x)
+    IsAwaiting (asking_of way) wire (hub_of s x.hub) (place_of s x.hub x.port) st.parts (in_hand st) (32 * q) (asked_as x)
 
 abbrev pub IsAwaitingAt : Script → Wired → Standing → Endpoint → Type 0
 IsAwaitingAt s wire st y = AwaitsBy s wire st y.desc y.queue y.desc.name.way
@@ -86,17 +93,16 @@ every_name addr ep = true
 
 pub record AreAwaited (s : Script) (st : Standing) (w : World) : Type 0 where
   pub served : AreServed s w.driver
-  pub met : (e : ℕ) (y : Endpoint) → slice_get w.driver.endpoints e ≡ Some y → is_bulk_below y.desc ≡ true
+  pub met : (e : ℕ) (y : Endpoint) → slice_get w.driver.endpoints e ≡ Some y → is_buffered_below y.desc ≡ true
       → IsMet (queued w.driver) e (queued_endpoint y) → IsAwaitingAt s (wired (fixed_of s) w) st y
-  pub fresh_ins : AreFresh w.driver ways.In every_name (FreshKey s (wired (fixed_of s) w) ways.In)
-  pub fresh_outs : AreFresh w.driver ways.Out every_name (FreshKey s (wired (fixed_of s) w) ways.Out)
+  pub fresh : (way : Way) → AreFresh w.driver way every_name (FreshKeys s (wired (fixed_of s) w) way)
 
 abbrev pub HubsStand : Script → Bus → Type 0
-HubsStand s b = (x : EpDesc) → IsOpened s x → is_bulk_below x ≡ true
+HubsStand s b = (x : EpDesc) → IsOpened s x → is_buffered_below x ≡ true
     → IsAtHub b.hubs (asked_as x).hub (asked_as x).port (hub_of s x.hub) (place_of s x.hub x.port)
 
 abbrev pub SparesBuffers : Script → World → Type 0
-SparesBuffers s w = (x : EpDesc) → IsOpened s x → is_bulk_below x ≡ true → (h : HubContent)
+SparesBuffers s w = (x : EpDesc) → IsOpened s x → is_buffered_below x ≡ true → (h : HubContent)
     → slice_get w.bus.hubs (hub_of s x.hub) ≡ Some h → heard_clear h ≡ false
 
 pub record IsAwaitedWorld (s : Script) (puts : ℕ → List ℕ) (w : World) : Type 0 where
@@ -106,7 +112,7 @@ pub record IsAwaitedWorld (s : Script) (puts : ℕ → List ℕ) (w : World) : T
   pub piped : IsPiped (fixed_of s) (sides_of s) standing lines heads w
   pub pays : Pays (fixed_of s) (sides_of s) standing lines puts w
   pub behind : IsBehind (fixed_of s) (spots_of s) standing lines puts w
-  pub left : HasErrorsLeft is_bulk_asked standing w
+  pub left : HasErrorsLeft is_buffered_asked standing w
   pub awaited : AreAwaited s standing w
   pub hubs : HubsStand s w.bus
   pub numbers : AreNumbered s w.bus

@@ -1,4 +1,5 @@
--- A script for worked rows, and an endpoint: one line asks hub 9 to clear a buffer; a stick at full speed behind it has a bulk endpoint, IN.
+-- A script for worked rows, and two endpoints: one line asks hub 9 to clear a buffer; a stick at full speed behind it has a bulk endpoint, IN,
+-- and a control endpoint.
 use Rattle.std.specs.Prelude.{[], ◌∷◌}
 use Rattle.usb_base.specs.declared.commands.Cmd.TheVariants as commands
 use Rattle.usb_base.specs.declared.endpoints.EpDesc.{EpDesc}
@@ -20,3 +21,6 @@ clears_buffer = record beside_split {
 
 abbrev pub stick : EpDesc
 stick = record board { speed = speeds.Full; kind = kinds.Bulk; max = 64; period = 0 }
+
+abbrev pub asker : EpDesc
+asker = record stick { name = record { addr = 1; num = 0; way = ways.Ctl }; kind = kinds.Control; max = 8 }

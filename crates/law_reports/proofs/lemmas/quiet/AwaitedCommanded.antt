@@ -1,10 +1,9 @@
--- Each command, accepted or refused, leaves host and hub of each bulk endpoint below a hub as they must stand.
+-- Each command, accepted or refused, leaves host and hub of each bulk and control endpoint below a hub as they must stand.
 use Rattle.std.proofs.Common.{◌≡◌, ℕ, true, List, slice_get, Some, Result, Ok, Err, ap, refl, sym, subst, ◌∙◌, inl}
 use Rattle.std.specs.Prelude.{◌⊎◌}
 use Rattle.usb_base.specs.declared.commands.Cmd.{Cmd}
 use Rattle.usb_base.specs.declared.endpoints.EpDesc.{EpDesc}
 use Rattle.usb_base.specs.declared.packets.Way.{Way}
-use Rattle.usb_base.specs.declared.packets.Way.TheVariants as ways
 use Rattle.usb_base.specs.declared.reports.OfferError.{OfferError}
 use Rattle.word_mem.specs.Memory.{Mem}
 use Rattle.script_types.specs.declared.scripts.Script.{Script}
@@ -24,7 +23,7 @@ use Rattle.law_reports.specs.lines.Lined.{Lines}
 use Rattle.law_reports.specs.pipes.Declared.{sides_of}
 use Rattle.law_reports.specs.pipes.Piped.{Heads, AreFresh, IsPiped}
 use Rattle.law_reports.specs.pipes.PipedLaws.{OpensDeclared}
-use Rattle.law_reports.specs.quiet.Awaiting.{is_bulk_below, FreshKey, AwaitsBy, IsAwaitingAt, every_name, AreAwaited}
+use Rattle.law_reports.specs.quiet.Awaiting.{is_buffered_below, FreshKeys, AwaitsBy, IsAwaitingAt, every_name, AreAwaited}
 use Rattle.law_reports.specs.quiet.Heard.{AreServed}
 use Rattle.law_reports.proofs.lemmas.pipes.Accepted.{EndsThen, one_more, one_anew, ends_then, now_anew}
 use Rattle.law_reports.proofs.lemmas.pipes.Across.{ComesOf, WasIn, IsNowIn}
@@ -44,7 +43,7 @@ module _ (s : Script) (st : Standing) (m : Lines) (h : Heads) (w : World) (k : I
   module _ (f : DriverContent) (mem : Mem) (new : IsPiped (fixed_of s) (sides_of s) st m h (record w { driver = f; memory = mem }))
       (was : (e : ℕ) (z : Endpoint) → slice_get f.endpoints e ≡ Some z
       → (IsThere (queued f) (queued_endpoint z)) ⊎ (z.gone ≡ true) → WasIn w.driver.endpoints e z) where
-    met_then : (e : ℕ) (z : Endpoint) → slice_get f.endpoints e ≡ Some z → is_bulk_below z.desc ≡ true
+    met_then : (e : ℕ) (z : Endpoint) → slice_get f.endpoints e ≡ Some z → is_buffered_below z.desc ≡ true
         → IsMet (queued f) e (queued_endpoint z) → IsAwaitingAt s wire st z
     met_then e z here is is_met =
         let near_now : AreMet (queued f) st.near = new.mixed.queues.queues.met in
@@ -53,15 +52,14 @@ module _ (s : Script) (st : Standing) (m : Lines) (h : Heads) (w : World) (k : I
         let y : Endpoint = u.before.endpoint in
         subst (λ (c : EpDesc). AwaitsBy s wire st c z.queue c.name.way) (sym u.before.comes.desc)
         (subst (λ (q : ℕ). AwaitsBy s wire st y.desc q y.desc.name.way) (sym u.before.comes.queue)
-        (a.met e y u.before.here (ap is_bulk_below (sym u.before.comes.desc) ∙ is) u.met))
+        (a.met e y u.before.here (ap is_buffered_below (sym u.before.comes.desc) ∙ is) u.met))
 
-    with_driver : AreServed s f → ((way : Way) → AreFresh w.driver way every_name (FreshKey s wire way)
-        → AreFresh f way every_name (FreshKey s wire way)) → AreAwaited s st (record w { driver = f; memory = mem })
+    with_driver : AreServed s f → ((way : Way) → AreFresh w.driver way every_name (FreshKeys s wire way)
+        → AreFresh f way every_name (FreshKeys s wire way)) → AreAwaited s st (record w { driver = f; memory = mem })
     with_driver served fresh = record {
       served = served;
       met = met_then;
-      fresh_ins = fresh ways.In a.fresh_ins;
-      fresh_outs = fresh ways.Out a.fresh_outs;
+      fresh = λ way. fresh way (a.fresh way);
     }
 
   -- ---- refused
@@ -76,7 +74,7 @@ module _ (s : Script) (st : Standing) (m : Lines) (h : Heads) (w : World) (k : I
       let f : DriverContent = refused_line w.driver line (name_in cmd) why in
       with_driver f w.memory new (λ e z here which. record { endpoint = z; here = here; comes = itself z }) a.served
       (λ way old. fresh_carried w.driver f (λ e y here. record { endpoint = y; here = here; comes = itself y }) (λ q opening. opening) way
-      every_name (FreshKey s wire way) old)
+      every_name (FreshKeys s wire way) old)
 
   -- ---- accepted
 
@@ -86,15 +84,15 @@ module _ (s : Script) (st : Standing) (m : Lines) (h : Heads) (w : World) (k : I
     ends : EndsThen w.driver f.driver cmd
     ends = ends_then w.driver w.memory f cmd (reason_of w.driver w.memory cmd f is)
 
-    fresh_by : EndsThen w.driver f.driver cmd → (way : Way) → AreFresh w.driver way every_name (FreshKey s wire way)
-        → AreFresh f.driver way every_name (FreshKey s wire way)
+    fresh_by : EndsThen w.driver f.driver cmd → (way : Way) → AreFresh w.driver way every_name (FreshKeys s wire way)
+        → AreFresh f.driver way every_name (FreshKeys s wire way)
     fresh_by (one_more y asked added kept newest tells) way old =
         fresh_more (fixed_of s) (sides_of s) st m h w k line cmd f declares new.mixed new.telling new.going new.descriptors y added kept
-        newest (subst (OpensDeclared (sides_of s)) asked declares) way every_name (FreshKey s wire way) old
+        newest (subst (OpensDeclared (sides_of s)) asked declares) way every_name (FreshKeys s wire way) old
     fresh_by (one_anew j y u at added comes kept never tells) way old =
         fresh_carried w.driver f.driver
         (λ e t here. subst (λ (xs : List Endpoint). IsNowIn xs e t) (sym added) (now_anew w.driver.endpoints j y u at comes e t here))
-        (λ q opening. absurd (never q opening)) way every_name (FreshKey s wire way) old
+        (λ q opening. absurd (never q opening)) way every_name (FreshKeys s wire way) old
 
     accepted_awaited : AreAwaited s st (commanded_by w line (name_in cmd) (Ok f))
     accepted_awaited =

@@ -1,18 +1,22 @@
--- Each event of the controller leaves errors to the queue of each bulk endpoint below a hub, where its hub is heard and spared.
-use Rattle.std.proofs.Common.{◌≡◌, ◌≢◌, ℕ, ◌*◌, ◌==◌, Bool, true, false, not, ◌&&◌, ◌||◌, if◌then◌else◌, List, slice_get, Some}
-use Rattle.std.proofs.Common.{ap, refl, sym, subst, ◌∙◌, ⊎_elim, inl, inr, arith, suc, ◌<◌}
-use Rattle.std.specs.Prelude.{◌⊎◌, slice_index}
+-- Each event of the controller leaves errors to the queue of each bulk and control endpoint below a hub, where its hub is heard and spared.
+use Rattle.std.proofs.Common.{◌≡◌, ℕ, ◌*◌, ◌==◌, Bool, true, false, not, ◌&&◌, List, slice_get, Some}
+use Rattle.std.proofs.Common.{ap, refl, sym, subst, ◌∙◌, ⊎_elim, ◌≤◌, Option}
+use Rattle.std.specs.Prelude.{slice_index}
 use Rattle.std.specs.List.{AllByRecursion}
 use Rattle.std.proofs.lemmas.Bool.{and_parts, eqb-true, eq-eqb, false≢true, true≢false}
 use Rattle.std.proofs.lemmas.Option.{same_Some}
 use Rattle.law_common.proofs.Booleans.{not_high}
 use Rattle.usb_base.specs.declared.endpoints.EpDesc.{EpDesc}
 use Rattle.usb_base.specs.declared.packets.Ask.{Ask}
+use Rattle.usb_base.specs.declared.packets.Dir.{Dir}
 use Rattle.usb_base.specs.declared.packets.EpKind.{EpKind}
 use Rattle.usb_base.specs.declared.packets.EpKind.TheVariants as kinds
+use Rattle.usb_base.specs.declared.packets.Pid.{Pid}
 use Rattle.usb_base.specs.declared.packets.Pid.TheVariants as pids
 use Rattle.usb_base.specs.declared.packets.Speed.{Speed}
 use Rattle.usb_base.specs.declared.packets.Speed.TheVariants as speeds
+use Rattle.usb_base.specs.declared.packets.Way.{Way}
+use Rattle.usb_base.specs.declared.packets.Way.TheVariants as ways
 use Rattle.script_types.specs.declared.scripts.Script.{Script}
 use Rattle.script_text.specs.Faults.{Spells}
 use Rattle.word_mem.specs.Memory.{Mem}
@@ -27,14 +31,11 @@ use Rattle.mem_queues.specs.Structures.{queue_head_at_address}
 use Rattle.toggle_error.specs.declared.host.HostSide.{HostSide}
 use Rattle.hc_copy.specs.Planning.{pid_at, host_in, transaction_of}
 use Rattle.hc_copy.specs.Transacting.{call_in}
-use Rattle.hc_copy.specs.Visits.{visit_of}
-use Rattle.hc_masks.specs.Masks.{has, is_after_first, lacks}
 use Rattle.hc_interrupt.specs.declared.turns.Turn.TheVariants as queue_turns
-use Rattle.hc_interrupt.specs.Turns.{turn_of, complete_turn, start_turn, waits, is_missed, microframe_of, tag_of, is_last_of, planned}
+use Rattle.hc_interrupt.specs.Turns.{turn_of, is_last_of, planned}
 use Rattle.async_walk.specs.Naks.{kind_at, planned as ring_planned}
 use Rattle.hc_core.specs.Controller.{walk_place}
 use Rattle.claims_driver.specs.Leaving.{HasOwners}
-use Rattle.claims_world.specs.BelowStreams.{is_bulk}
 use Rattle.claims_world.specs.Quiet.{GetsThroughAbove}
 use Rattle.drv_periodic_table.specs.Periodic.{is_periodic}
 use Rattle.drv_table.specs.declared.content.Endpoint.{Endpoint}
@@ -42,6 +43,7 @@ use Rattle.drv_table.specs.DriverContent.{DriverContent}
 use Rattle.drv_table.specs.Kinds.{is_iso}
 use Rattle.drv_table.specs.Words.{is_control, is_high, speed_field, head_block, opening_head}
 use Rattle.claims_driver.specs.InPlace.{AreFixed}
+use Rattle.law_driver.specs.queued_drivers.Queued.{IsOfWay}
 use Rattle.law_driver_ring.specs.fed_queues.Places.{HasHead}
 use Rattle.law_structures.specs.lent_structures.Structures.{QueueHead, Structures}
 use Rattle.law_structures.specs.lent_structures.Sound.{IsWorking, IsSoundQueue}
@@ -59,10 +61,10 @@ use Rattle.law_frames.specs.FrameEffects.{frame_settlement, MakesOfQueue}
 use Rattle.law_controller.specs.frame_control.Joined.{joined}
 use Rattle.law_descriptors.specs.Both.{both}
 use Rattle.law_descriptors.specs.Meeting.{met}
-use Rattle.law_below_hubs.specs.Awaited.{KeyStands, awaits, OwnAwaited, IsSplitTo, own_key}
+use Rattle.law_below_hubs.specs.Awaited.{awaits, awaits_in, KeyStands, Asking, Moves, Controls, its_kind, IsCodeOf, IsSplitTo, own_key, OwnAwaited}
 use Rattle.law_below_hubs.specs.HostEvents.{hand_host, told_key}
 use Rattle.law_below_hubs.specs.Splits.{IsAtHub}
-use Rattle.law_below_hubs.proofs.AwaitedEvents.{own_split}
+use Rattle.law_below_hubs.proofs.AwaitedEvents.{own_awaits, faces_own, own_split}
 use Rattle.law_below_hubs.proofs.AwaitedKeys.{own_splits_are_awaited}
 use Rattle.law_microframes.proofs.lemmas.visits.AskedHeads.{asked_is_near}
 use Rattle.law_microframes.proofs.lemmas.visits.BelongReads.{read_fields}
@@ -81,62 +83,16 @@ use Rattle.law_reports.proofs.lemmas.pipes.Controlled.{c as controlled_event}
 use Rattle.law_reports.proofs.lemmas.pipes.Names.{IsMetHead, met_head, same_number, kept_as}
 use Rattle.law_reports.proofs.lemmas.pipes.lemmas.below_hubs.Asked.{none_ringed}
 use Rattle.law_reports.proofs.lemmas.pipes.lemmas.below_hubs.Controlled.{sound_at}
-use Rattle.law_reports.specs.quiet.Awaiting.{is_bulk_below, is_bulk_asked, code_of, IsAwaitingAt, AreNumbered, AreAwaited, HubsStand}
+use Rattle.law_reports.specs.quiet.Awaiting.{is_buffered, is_buffered_below, is_buffered_asked, asking_of, IsAwaitingAt, AreNumbered}
+use Rattle.law_reports.specs.quiet.Awaiting.{AreAwaited, HubsStand}
 use Rattle.law_reports.specs.quiet.Awaiting.{SparesBuffers}
 use Rattle.law_reports.specs.quiet.Errors.{key_of, TokenHasLeft, HostHasLeft}
 use Rattle.law_reports.specs.quiet.Laws.{HasErrorsLeft}
-use Rattle.law_reports.proofs.lemmas.quiet.AwaitedControlled.{code_moves, hub_heard}
+use Rattle.law_reports.proofs.lemmas.quiet.AwaitedControlled.{moving, hub_heard}
 use Rattle.law_reports.proofs.lemmas.quiet.Rows.{missed_stays}
+use Rattle.law_reports.proofs.lemmas.quiet.SetupRoom.{fits_whole, control_room}
+use Rattle.law_reports.proofs.lemmas.quiet.Unmasked.{works_masked}
 use Rattle.law_reports.proofs.lemmas.quiet.Worlds.{off, event_leaves_errors}
-
--- ---- no queue head without an S-mask works in the frames
-
-none_masked : (u : ℕ) → u < 8 → has 0 u ≡ false
-none_masked (suc (suc (suc (suc (suc (suc (suc (suc u)))))))) small = absurd (omega (arith, small))
-none_masked _ small = refl
-
-none_first : (u : ℕ) → u < 8 → is_after_first 0 u ≡ false
-none_first (suc (suc (suc (suc (suc (suc (suc (suc u)))))))) small = absurd (omega (arith, small))
-none_first _ small = refl
-
-works_masked : (f : ℕ) (q : Qh) → q.smask ≡ 0 → turn_of f q ≡ queue_turns.Work → ⊥
-works_masked f q none is = by (waits q) refl
-  where
-    small : microframe_of f < 8
-    small = omega arith
-
-    or_true : (tag lacking : Bool) → (not tag || (not false || lacking)) ≡ true
-    or_true true lacking = refl
-    or_true false lacking = refl
-
-    missed : is_missed f q ≡ true
-    missed =
-        ap (λ (n : ℕ). not (q.frame_tag == tag_of f) || (not (is_after_first n (microframe_of f)) || lacks q.cmask q.c_prog (microframe_of f)))
-        none
-        ∙ ap (λ (b : Bool). not (q.frame_tag == tag_of f) || (not b || lacks q.cmask q.c_prog (microframe_of f)))
-        (none_first (microframe_of f) small)
-        ∙ or_true (q.frame_tag == tag_of f) (lacks q.cmask q.c_prog (microframe_of f))
-
-    unmasked : has q.smask (microframe_of f) ≡ false
-    unmasked = ap (λ (n : ℕ). has n (microframe_of f)) none ∙ none_masked (microframe_of f) small
-
-    no_miss : (b : Bool) → complete_turn true b ≡ queue_turns.Work → ⊥
-    no_miss b e = cc
-
-    no_rest : start_turn (visit_of false q) ≡ queue_turns.Work → ⊥
-    no_rest e = cc
-
-    by : (b : Bool) → waits q ≡ b → ⊥
-    by true on =
-        no_miss (has q.cmask (microframe_of f))
-        (sym (ap (λ (b : Bool). if b then complete_turn (is_missed f q) (has q.cmask (microframe_of f))
-        else start_turn (visit_of (has q.smask (microframe_of f)) q)) on
-        ∙ ap (λ (b : Bool). complete_turn b (has q.cmask (microframe_of f))) missed) ∙ is)
-    by false on =
-        no_rest
-        (sym (ap (λ (b : Bool). if b then complete_turn (is_missed f q) (has q.cmask (microframe_of f))
-        else start_turn (visit_of (has q.smask (microframe_of f)) q)) on
-        ∙ ap (λ (b : Bool). start_turn (visit_of b q)) unmasked) ∙ is)
 
 -- ---- the queue head of the ring itself is told as one at high speed (3.6.2 and 4.8)
 
@@ -157,26 +113,20 @@ slow_by speeds.High is = absurd (true≢false is)
 slow_by speeds.Full is = refl
 slow_by speeds.Low is = refl
 
-bulk_by : (kind : EpKind) → is_iso kind ≡ false → is_periodic kind ≡ false → is_control kind ≡ false → is_bulk kind ≡ true
-bulk_by kinds.Bulk iso ring no_dtc = refl
-bulk_by kinds.Iso iso ring no_dtc = absurd (true≢false iso)
-bulk_by kinds.Interrupt iso ring no_dtc = absurd (true≢false ring)
-bulk_by kinds.Control iso ring no_dtc = absurd (true≢false no_dtc)
+buffered_by : (kind : EpKind) → is_iso kind ≡ false → is_periodic kind ≡ false → is_buffered kind ≡ true
+buffered_by kinds.Bulk iso ring = refl
+buffered_by kinds.Control iso ring = refl
+buffered_by kinds.Iso iso ring = absurd (true≢false iso)
+buffered_by kinds.Interrupt iso ring = absurd (true≢false ring)
 
-moves_no_setup : (code : ℕ) → (code ≡ 1) ⊎ (code ≡ 0) → pid_at code ≡ pids.Setup → ⊥
-moves_no_setup code (inl one) is = in_setup (sym (ap pid_at one) ∙ is)
-  where
-    in_setup : pids.In ≡ pids.Setup → ⊥
-    in_setup e = cc
-moves_no_setup code (inr none) is = out_setup (sym (ap pid_at none) ∙ is)
-  where
-    out_setup : pids.Out ≡ pids.Setup → ⊥
-    out_setup e = cc
+ring_kind : (a : Asking) → kind_at (is_control (its_kind a)) ≡ its_kind a
+ring_kind (Moves code) = refl
+ring_kind Controls = refl
 
 module _ (text : List ℕ) (s : Script) (spelled : Spells text s) (packets : AllByRecursion GetsThroughAbove s.fates) (st : Standing) (m : Lines)
     (h : Heads) (puts : ℕ → List ℕ) (w : World) (k : IsPiped (fixed_of s) (sides_of s) st m h w)
     (pays : Pays (fixed_of s) (sides_of s) st m puts w) (b : IsBehind (fixed_of s) (spots_of s) st m puts w) (a : AreAwaited s st w)
-    (hubs : HubsStand s w.bus) (numbers : AreNumbered s w.bus) (spares : SparesBuffers s w) (left : HasErrorsLeft is_bulk_asked st w) where
+    (hubs : HubsStand s w.bus) (numbers : AreNumbered s w.bus) (spares : SparesBuffers s w) (left : HasErrorsLeft is_buffered_asked st w) where
   abbrev wire : Wired
   wire = wired (fixed_of s) w
 
@@ -193,14 +143,14 @@ module _ (text : List ℕ) (s : Script) (spelled : Spells text s) (packets : All
   owners = k.mixed.now.framed.place.sound.owners
 
   own_here : (n : ℕ) (q : Qh) → both st.descs st.parts n n ≡ Some (QueueHead q) → st.parts n n ≡ Some (QueueHead q)
-  own_here n q here = ap (λ (part : Structures). part n) (sym (off is_bulk_asked (fixed_of s) st w mixed event left n q here)) ∙ here
+  own_here n q here = ap (λ (part : Structures). part n) (sym (off is_buffered_asked (fixed_of s) st w mixed event left n q here)) ∙ here
 
-  token_at : (n : ℕ) (q : Qh) → both st.descs st.parts n n ≡ Some (QueueHead q) → TokenHasLeft is_bulk_asked (key_of q) q.token
+  token_at : (n : ℕ) (q : Qh) → both st.descs st.parts n n ≡ Some (QueueHead q) → TokenHasLeft is_buffered_asked (key_of q) q.token
   token_at n q here = (left.parts n).head q (own_here n q here)
 
-  -- ---- one that the ring asks is of a bulk endpoint
+  -- ---- one that the ring asks is of a bulk or control endpoint
 
-  module _ (n : ℕ) (q : Qh) (slow : (q.eps == 2) ≡ false) (no_dtc : q.dtc ≡ false) (here : st.parts n n ≡ Some (QueueHead q))
+  module _ (n : ℕ) (q : Qh) (slow : (q.eps == 2) ≡ false) (here : st.parts n n ≡ Some (QueueHead q))
       (near : st.near n ≡ true) (member : st.member n ≡ true) where
     read : queue_head_at_address w.memory n ≡ Some q
     read = head_read w.memory st.parts n n q (tells_of st w mixed) here
@@ -268,14 +218,13 @@ module _ (text : List ℕ) (s : Script) (spelled : Spells text s) (packets : All
             none_iso : (u : HasHead w.driver n) → is_iso u.endpoint.desc.kind ≡ true → ⊥
             none_iso u iso = none_ringed w.driver u.number u.endpoint owners u.here (iso_periodic u.endpoint.desc.kind iso) u.met.near
 
-    is_bulk_end : is_bulk_below of_endpoint.endpoint.desc ≡ true
-    is_bulk_end =
-        ap (λ (c : Bool). c && not (is_high x.speed))
-        (bulk_by x.kind kept.1 ringed (sym (ap (λ (e : Told). e.dtc) asked) ∙ no_dtc))
+    is_buffered_end : is_buffered_below of_endpoint.endpoint.desc ≡ true
+    is_buffered_end =
+        ap (λ (c : Bool). c && not (is_high x.speed)) (buffered_by x.kind kept.1 ringed)
         ∙ ap not (slow_by x.speed (ap (λ (e : Told). e.speed == 2) (sym asked) ∙ slow))
 
     awaiting : IsAwaitingAt s wire st of_endpoint.endpoint
-    awaiting = a.met of_endpoint.number of_endpoint.endpoint of_endpoint.here is_bulk_end of_endpoint.met
+    awaiting = a.met of_endpoint.number of_endpoint.endpoint of_endpoint.here is_buffered_end of_endpoint.met
 
   -- ---- in the ring
 
@@ -305,27 +254,30 @@ module _ (text : List ℕ) (s : Script) (spelled : Spells text s) (packets : All
         mixed.now.framed.runs.ring.in_hand in
         c.on
 
-    module _ (on : is_bulk_asked (key_of v.copy.queue) ≡ true) where
-      parts_on : (not (q.eps == 2) ≡ true) × ((q.smask == 0 && not q.dtc) ≡ true)
-      parts_on = and_parts (not (q.eps == 2)) (q.smask == 0 && not q.dtc) on
+    module _ (on : is_buffered_asked (key_of v.copy.queue) ≡ true) where
+      parts_on : (not (q.eps == 2) ≡ true) × ((q.smask == 0) ≡ true)
+      parts_on = and_parts (not (q.eps == 2)) (q.smask == 0) on
 
       slow : (q.eps == 2) ≡ false
       slow = not_high (q.eps == 2) (sym parts_on.0)
 
-      no_dtc : q.dtc ≡ false
-      no_dtc = not_high q.dtc (sym (and_parts (q.smask == 0) (not q.dtc) parts_on.1).1)
-
       abbrev its : IsMetHead w.driver v.copy.at
-      its = of_endpoint n q slow no_dtc own near member
+      its = of_endpoint n q slow own near member
 
-      bulk : is_bulk_below its.endpoint.desc ≡ true
-      bulk = is_bulk_end n q slow no_dtc own near member
+      buffered : is_buffered_below its.endpoint.desc ≡ true
+      buffered = is_buffered_end n q slow own near member
 
-      abbrev code : ℕ
-      code = code_of its.endpoint.desc.name.way
+      abbrev way : Way
+      way = its.endpoint.desc.name.way
+
+      abbrev asking : Asking
+      asking = asking_of its.endpoint.desc.name.way
+
+      abbrev kind : EpKind
+      kind = its_kind (asking_of its.endpoint.desc.name.way)
 
       stands : IsAwaitingAt s wire st its.endpoint
-      stands = awaiting n q slow no_dtc own near member
+      stands = awaiting n q slow own near member
 
       queue_is : stands.queue ≡ v.copy.queue
       queue_is =
@@ -336,6 +288,9 @@ module _ (text : List ℕ) (s : Script) (spelled : Spells text s) (packets : All
 
       asked_is : endpoint_of v.copy.queue ≡ asked_as its.endpoint.desc
       asked_is = ap endpoint_of (sym queue_is) ∙ sym stands.is
+
+      ring_is : kind_at v.copy.queue.dtc ≡ its_kind (asking_of its.endpoint.desc.name.way)
+      ring_is = ap kind_at (ap (λ (e : Told). e.dtc) asked_is ∙ stands.own) ∙ ring_kind asking
 
       abbrev place : ℕ
       place = 32 * its.endpoint.queue
@@ -350,11 +305,16 @@ module _ (text : List ℕ) (s : Script) (spelled : Spells text s) (packets : All
       working =
           (subst (IsSoundQueue (st.parts place)) (found_queue (st.parts place place) part.queue q part.here its_here) part.sound).work v.works
 
-      working_pid : v.copy.queue.token.pid ≡ code
-      working_pid = working.pid ∙ stands.ways q.current working.element working.here working.published
+      code_is : IsCodeOf (asking_of its.endpoint.desc.name.way) v.copy.queue.token.pid
+      code_is =
+          subst (IsCodeOf (asking_of its.endpoint.desc.name.way)) (sym working.pid)
+          (stands.ways q.current working.element working.here working.published)
 
-      key_is : told_key kinds.Bulk (direction_of (pid_at code)) (asked_as its.endpoint.desc) ≡ own_key code v.copy.queue
-      key_is = ap (told_key kinds.Bulk (direction_of (pid_at code))) (sym asked_is)
+      abbrev own_dir : Dir
+      own_dir = direction_of (pid_at v.copy.queue.token.pid)
+
+      key_is : told_key kind own_dir (asked_as its.endpoint.desc) ≡ own_key kind v.copy.queue.token.pid v.copy.queue
+      key_is = ap (told_key kind own_dir) (sym asked_is)
 
       abbrev hub_place : ℕ
       hub_place = hub_of s its.endpoint.desc.hub
@@ -365,65 +325,92 @@ module _ (text : List ℕ) (s : Script) (spelled : Spells text s) (packets : All
       its_hub : IsAtHub w.bus.hubs v.copy.queue.hub v.copy.queue.port hub_place tt_place
       its_hub = subst (λ (e : Told). IsAtHub w.bus.hubs e.hub e.port hub_place tt_place) (sym asked_is) stands.hub
 
-      its_key : KeyStands (own_key code v.copy.queue) hub_place tt_place wire (awaits v.copy.queue.token.split_state (pid_at code))
+      abbrev Told_key : Option Pid → Type 0
+      Told_key o = KeyStands (told_key kind own_dir (asked_as its.endpoint.desc)) hub_place tt_place wire o
+
+      its_key : KeyStands (own_key kind v.copy.queue.token.pid v.copy.queue) hub_place tt_place wire
+          (awaits v.copy.queue.token.split_state (pid_at v.copy.queue.token.pid))
       its_key =
-          subst (λ (key : HubKey). KeyStands key hub_place tt_place wire (awaits v.copy.queue.token.split_state (pid_at code))) key_is
-          (subst (λ (host : HostSide). KeyStands (told_key kinds.Bulk (direction_of (pid_at code)) (asked_as its.endpoint.desc)) hub_place
-          tt_place wire (awaits host.waiting (pid_at code))) host_is stands.key)
+          subst (λ (key : HubKey). KeyStands key hub_place tt_place wire
+          (awaits v.copy.queue.token.split_state (pid_at v.copy.queue.token.pid))) key_is
+          (subst Told_key (own_awaits v.copy.queue.token.split_state (pid_at v.copy.queue.token.pid))
+          (subst (λ (host : HostSide). Told_key (awaits_in own_dir host.waiting (pid_at v.copy.queue.token.pid))) host_is
+          (subst (λ (y : Qh). Told_key (awaits_in own_dir (hand_host (in_hand st) (32 * its.endpoint.queue) stands.queue).waiting
+          (pid_at y.token.pid))) queue_is
+          (stands.keys own_dir (faces_own asking v.copy.queue.token.pid code_is)))))
 
       abbrev ask : Ask
-      ask = (call_in (transaction_of kinds.Bulk v.copy.queue) v.out false).ask
+      ask = (call_in (transaction_of kind v.copy.queue) v.out false).ask
 
       abbrev goes : List ℕ
-      goes = (call_in (transaction_of kinds.Bulk v.copy.queue) v.out false).out
+      goes = (call_in (transaction_of kind v.copy.queue) v.out false).out
 
       made : transacts_by wire ask goes v.reply after
       made =
-          subst (λ (c : Bool). transacts_by wire (call_in (transaction_of (kind_at c) v.copy.queue) v.out false).ask
-          (call_in (transaction_of (kind_at c) v.copy.queue) v.out false).out v.reply after) no_dtc v.made
+          subst (λ (c : EpKind). transacts_by wire (call_in (transaction_of c v.copy.queue) v.out false).ask
+          (call_in (transaction_of c v.copy.queue) v.out false).out v.reply after) ring_is v.made
 
       says : v.reply ≡ translator_answer (slice_get w.bus.hubs hub_place) ask
       says =
-          let o = own_split v.copy.queue v.out slow in
+          let o = own_split kind v.copy.queue v.out slow in
           hub_heard text s spelled packets st m h puts w k pays b a hubs numbers spares its.endpoint.desc
-          (a.served its.number its.endpoint its.here).opened bulk code (code_moves its.endpoint.desc.name.way) (own_key code v.copy.queue)
-          its_key.ends ask goes v.reply
-          (subst (λ (e : Told). IsSplitTo e.hub e.port ask.split) asked_is o.0)
-          (o.1 ∙ ap (λ (p : ℕ). own_key p v.copy.queue) working_pid) (o.2 ∙ ap pid_at working_pid) made
+          (a.served its.number its.endpoint its.here).opened buffered asking v.copy.queue.token.pid (moving way) code_is
+          (own_key kind v.copy.queue.token.pid v.copy.queue)
+          its_key.ends ask goes v.reply (subst (λ (e : Told). IsSplitTo e.hub e.port ask.split) asked_is o.0) o.1 o.2 made
 
-      awaited : OwnAwaited code v.copy.queue v.out v.reply hub_place tt_place after
+      awaited : OwnAwaited kind v.copy.queue v.out v.reply hub_place tt_place after
       awaited =
-          own_splits_are_awaited code v.copy.queue hub_place tt_place wire after v.out v.reply
-          (record { below = slow; pid = working_pid; way = code_moves its.endpoint.desc.name.way }) its_hub made says its_key
+          own_splits_are_awaited asking v.copy.queue hub_place tt_place wire after v.out v.reply
+          (record { below = slow; moving = moving way; code = code_is }) v.works its_hub made says its_key
 
       errors : (settlement v.copy.queue v.out v.reply).host.cerr ≡ v.copy.queue.token.cerr
       errors =
-          ap (λ (c : Bool). (settlement_as (kind_at c) v.copy.queue v.out false v.reply).host.cerr) no_dtc ∙ awaited.errors
+          ap (λ (c : EpKind). (settlement_as c v.copy.queue v.out false v.reply).host.cerr) ring_is ∙ awaited.errors
 
-      no_setup : pid_at v.copy.queue.token.pid ≡ pids.Setup → ⊥
-      no_setup is = moves_no_setup code (code_moves its.endpoint.desc.name.way) (ap pid_at (sym working_pid) ∙ is)
+      -- a SETUP goes out whole: its packet holds eight bytes at least (USB 2.0, 5.5.3)
+      setup_left : pid_at v.copy.queue.token.pid ≡ pids.Setup → v.copy.queue.token.total ≡ 8
+          → (settlement v.copy.queue v.out v.reply).host.active ≡ true → (settlement v.copy.queue v.out v.reply).host.left ≡ 8
+      setup_left pid whole =
+          subst (λ (c : EpKind). (settlement_as c v.copy.queue v.out false v.reply).host.active ≡ true
+          → (settlement_as c v.copy.queue v.out false v.reply).host.left ≡ 8) (sym ring_is)
+          (λ act. awaited.whole pid (fits_whole v.copy.queue whole room) act ∙ whole)
+        where
+          control_by : (v : Way) (sort : EpKind) (code : ℕ) → IsOfWay v sort → pid_at code ≡ pids.Setup → IsCodeOf (asking_of v) code
+              → sort ≡ kinds.Control
+          control_by ways.In sort code of setup one = absurd (let e : pids.In ≡ pids.Setup = ap pid_at (sym one) ∙ setup in cc)
+          control_by ways.Out sort code of setup none = absurd (let e : pids.Out ≡ pids.Setup = ap pid_at (sym none) ∙ setup in cc)
+          control_by ways.Ctl sort code of setup any = of
 
-    pub ring_left : HostHasLeft is_bulk_asked (key_of v.copy.queue) v.copy.queue.token.pid (settlement v.copy.queue v.out v.reply).host
+          fits : IsOfWay its.endpoint.desc.name.way its.endpoint.desc.kind
+          fits = mixed.turns.kinds_fit its.number its.endpoint its.here
+
+          room : 8 ≤ v.copy.queue.max
+          room =
+              subst (λ (e : Told). 8 ≤ e.max) (sym asked_is)
+              (control_room text s spelled its.endpoint.desc (a.served its.number its.endpoint its.here).opened
+              (control_by its.endpoint.desc.name.way its.endpoint.desc.kind v.copy.queue.token.pid fits pid code_is))
+
+    pub ring_left : HostHasLeft is_buffered_asked (key_of v.copy.queue) v.copy.queue.token.pid (settlement v.copy.queue v.out v.reply).host
     ring_left =
-        let t : TokenHasLeft is_bulk_asked (key_of q) q.token = token_at n q here in
+        let t : TokenHasLeft is_buffered_asked (key_of q) q.token = token_at n q here in
         record {
           met = λ fast.
               missed_stays (call_in (ring_planned q) v.out false).ask (call_in (ring_planned q) v.out false).sent false v.reply (host_in q)
               ∙ t.met fast;
           going = λ on act none. t.going on v.works (sym (errors on) ∙ none);
           stopped = λ on act none. t.going on v.works (sym (errors on) ∙ none);
-          setup = λ on pid act. absurd (no_setup on pid);
+          setup = λ on pid act. setup_left on pid (t.setup on pid v.works) act;
         }
 
   -- ---- in the frames none is asked
 
   frame_left : (v : MakesOfQueue transacts_by (both st.descs st.parts) w.control.frame st.frame (wired (fixed_of s) w) (wired (fixed_of s)
       (controller_next (fixed_of s) w)) event.frame_later) → IsCopiedQueue (met w.driver st.recent) (both st.descs st.parts) v.copy
-      → HostHasLeft is_bulk_asked (key_of v.copy.queue) v.copy.queue.token.pid
+      → HostHasLeft is_buffered_asked (key_of v.copy.queue) v.copy.queue.token.pid
       (frame_settlement w.control.frame.index v.copy.queue v.out v.reply).host
   frame_left v copied =
       let q = v.copy.queue in
-      let t : TokenHasLeft is_bulk_asked (key_of q) q.token = token_at v.copy.at q copied.here in
+      let t : TokenHasLeft is_buffered_asked (key_of q) q.token = token_at v.copy.at q copied.here in
       record {
         met = λ fast.
             missed_stays (call_in (planned q) v.out (is_last_of w.control.frame.index q)).ask
@@ -434,11 +421,10 @@ module _ (text : List ℕ) (s : Script) (spelled : Spells text s) (packets : All
         setup = λ on pid act. absurd (never q v.turn on);
       }
     where
-      never : (q : Qh) → turn_of w.control.frame.index q ≡ queue_turns.Work → is_bulk_asked (key_of q) ≡ true → ⊥
+      never : (q : Qh) → turn_of w.control.frame.index q ≡ queue_turns.Work → is_buffered_asked (key_of q) ≡ true → ⊥
       never q turn on =
-          works_masked w.control.frame.index q
-          (eqb-true q.smask 0 (and_parts (q.smask == 0) (not q.dtc) (and_parts (not (q.eps == 2)) (q.smask == 0 && not q.dtc) on).1).0) turn
+          works_masked w.control.frame.index q (eqb-true q.smask 0 (and_parts (not (q.eps == 2)) (q.smask == 0) on).1) turn
 
-  pub controlled_left : HasErrorsLeft is_bulk_asked (standing_then st w (controlled_event (fixed_of s) (sides_of s) st m h w k).event)
+  pub controlled_left : HasErrorsLeft is_buffered_asked (standing_then st w (controlled_event (fixed_of s) (sides_of s) st m h w k).event)
       (controller_next (fixed_of s) w)
-  controlled_left = event_leaves_errors is_bulk_asked (fixed_of s) st w mixed event left ring_left (λ empty. frame_left)
+  controlled_left = event_leaves_errors is_buffered_asked (fixed_of s) st w mixed event left ring_left (λ empty. frame_left)

@@ -7,6 +7,7 @@ use Rattle.std.specs.Option.{option_and_then, option_map, option_map_or}
 use Rattle.usb_base.specs.Acknowledgement.{acknowledges}
 use Rattle.usb_base.specs.declared.packets.Ask.{Ask}
 use Rattle.usb_base.specs.declared.packets.Pid.{Pid}
+use Rattle.usb_base.specs.declared.packets.Pid.TheVariants as pids
 use Rattle.usb_base.specs.declared.packets.Reply.{Reply}
 use Rattle.usb_base.specs.declared.packets.Split.{Split}
 use Rattle.script_types.specs.declared.scripts.Script.{Script}
@@ -24,12 +25,17 @@ use Rattle.bus_wire.specs.Seats.{token_kind, place_for, seats_of}
 use Rattle.bus_wire.specs.WhoHeard.{who_heard, asker_hears, is_answer, later, packets_before}
 use Rattle.hc_copy.specs.Planning.{pid_at}
 use Rattle.hub_keys.specs.Keys.{direction_of}
+use Rattle.claims_report.specs.ControlSides.{Device as Side}
 use Rattle.claims_world.specs.Quiet.{GetsThroughAbove}
+use Rattle.drv_table.specs.Words.{is_control}
 use Rattle.law_devices.specs.Senders.{sender_of_device}
 use Rattle.law_devices.specs.scripted_takers.Takers.{taker_of_device}
-use Rattle.law_below_hubs.specs.Awaited.{HasEnd, IsSplitTo, starts, completes}
+use Rattle.law_below_hubs.specs.Awaited.{HasEnd, Asking, Moves, Controls, its_kind, IsMoving, IsCodeOf, IsSplitTo, starts, completes}
+use Rattle.law_below_hubs.specs.SeatedControls.{control_in}
 use Rattle.law_below_hubs.specs.Seated.{EndOf, end_in}
 use Rattle.law_below_hubs.specs.Splits.{IsAtHub}
+use Rattle.law_below_hubs.proofs.AwaitedSettles.{pid_cases}
+use Rattle.law_below_hubs.proofs.ControlSeats.{IsControlSeated, control_seated}
 use Rattle.law_below_hubs.proofs.Seating.{IsSeated, seated}
 use Rattle.law_microframes.specs.due.repeats.Hearing.{HasNumber}
 use Rattle.law_reports.specs.quiet.Awaiting.{AreNumbered}
@@ -53,17 +59,44 @@ end_seat {X} of_device nowhere s devices addr ep token some =
     seated of_device token nowhere (fixed_of s) devices addr ep e.value e.is in
     record { place = h.place; found = h.found; seat = h.seat; there = h.there }
 
+-- SETUP, IN and OUT of a control endpoint are for one seat
+control_seat : (s : Script) (devices : List Device) (addr ep : ℕ) (pid : Pid)
+    → (pid ≡ pids.In) ⊎ ((pid ≡ pids.Out) ⊎ (pid ≡ pids.Setup)) → is_some (control_in (fixed_of s) devices addr ep) ≡ true
+    → HasSeat s addr ep (token_kind pid)
+control_seat s devices addr ep pid token some =
+    let e : IsThere (control_in (fixed_of s) devices addr ep) = there_is (control_in (fixed_of s) devices addr ep) some in
+    let h : IsControlSeated (fixed_of s) devices addr ep e.value = control_seated (fixed_of s) devices addr ep e.value e.is in
+    record { place = h.place; found = by h token; seat = h.seat; there = h.there }
+  where
+    by : {d : Side} (h : IsControlSeated (fixed_of s) devices addr ep d) → (pid ≡ pids.In) ⊎ ((pid ≡ pids.Out) ⊎ (pid ≡ pids.Setup))
+        → place_for (seats_of s) addr ep (token_kind pid) ≡ Some h.place
+    by h (inl is) = ap (λ (p : Pid). place_for (seats_of s) addr ep (token_kind p)) is ∙ h.found_in
+    by h (inr (inl is)) = ap (λ (p : Pid). place_for (seats_of s) addr ep (token_kind p)) is ∙ h.found_out
+    by h (inr (inr is)) = ap (λ (p : Pid). place_for (seats_of s) addr ep (token_kind p)) is ∙ h.found
+
 -- an IN has the PID code 1, an OUT 0
-pub its_seat : (s : Script) (devices : List Device) (code addr ep : ℕ) (pid : Pid) → (code ≡ 1) ⊎ (code ≡ 0) → pid ≡ pid_at code
-    → HasEnd (direction_of (pid_at code)) (fixed_of s) devices addr ep → HasSeat s addr ep (token_kind pid)
-its_seat s devices code addr ep pid (inl one) is ends =
+data_seat : (s : Script) (devices : List Device) (code addr ep : ℕ) (pid : Pid) → (code ≡ 1) ⊎ (code ≡ 0) → pid ≡ pid_at code
+    → HasEnd false (direction_of (pid_at code)) (fixed_of s) devices addr ep → HasSeat s addr ep (token_kind pid)
+data_seat s devices code addr ep pid (inl one) is ends =
     subst (λ (p : Pid). HasSeat s addr ep (token_kind p)) (sym (is ∙ ap pid_at one))
     (end_seat sender_of_device (λ a n. refl) s devices addr ep tokens.In
-    (subst (λ (c : ℕ). HasEnd (direction_of (pid_at c)) (fixed_of s) devices addr ep) one ends))
-its_seat s devices code addr ep pid (inr none) is ends =
+    (subst (λ (c : ℕ). HasEnd false (direction_of (pid_at c)) (fixed_of s) devices addr ep) one ends))
+data_seat s devices code addr ep pid (inr none) is ends =
     subst (λ (p : Pid). HasSeat s addr ep (token_kind p)) (sym (is ∙ ap pid_at none))
     (end_seat taker_of_device (λ a n. refl) s devices addr ep tokens.Out
-    (subst (λ (c : ℕ). HasEnd (direction_of (pid_at c)) (fixed_of s) devices addr ep) none ends))
+    (subst (λ (c : ℕ). HasEnd false (direction_of (pid_at c)) (fixed_of s) devices addr ep) none ends))
+
+pub its_seat : (s : Script) (devices : List Device) (a : Asking) (code addr ep : ℕ) (pid : Pid) → IsMoving a → IsCodeOf a code
+    → pid ≡ pid_at code → HasEnd (is_control (its_kind a)) (direction_of (pid_at code)) (fixed_of s) devices addr ep
+    → HasSeat s addr ep (token_kind pid)
+its_seat s devices (Moves its) code addr ep pid moving of is ends =
+    data_seat s devices code addr ep pid (by moving) is ends
+  where
+    by : (its ≡ 1) ⊎ (its ≡ 0) → (code ≡ 1) ⊎ (code ≡ 0)
+    by (inl one) = inl (of ∙ one)
+    by (inr none) = inr (of ∙ none)
+its_seat s devices Controls code addr ep pid moving of is ends =
+    subst (λ (p : Pid). HasSeat s addr ep (token_kind p)) (sym is) (control_seat s devices addr ep (pid_at code) (pid_cases code) ends)
 
 -- ---- it is heard
 

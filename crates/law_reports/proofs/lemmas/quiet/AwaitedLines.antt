@@ -1,11 +1,11 @@
 -- Where all packets on the high-speed bus get through, and no request clears a buffer of a hub or resets a translator, each line that tells a
--- halt by errors is of an interrupt or control endpoint below a hub.
-use Rattle.std.proofs.Common.{◌≡◌, ℕ, ◌*◌, ◌==◌, ◌&&◌, ◌||◌, not, Bool, true, false, if◌then◌else◌, List, ◌++◌, slice_get}
+-- halt by errors is of an interrupt endpoint below a hub.
+use Rattle.std.proofs.Common.{◌≡◌, ℕ, ◌*◌, ◌==◌, ◌||◌, not, Bool, true, false, if◌then◌else◌, List, ◌++◌, slice_get}
 use Rattle.std.proofs.Common.{Option, Some, None, ap, refl, sym, subst, ◌∙◌, ⊎_elim, inl, inr, ◌⊎◌, arith}
 use Rattle.std.specs.Prelude.{find, unwrap_or}
 use Rattle.std.specs.List.{AllByRecursion}
 use Rattle.std.specs.Option.{option_map_or}
-use Rattle.std.proofs.lemmas.Bool.{and_parts, and_from, eq-eqb, eqb-true, false≢true}
+use Rattle.std.proofs.lemmas.Bool.{and_parts, and_from, eq-eqb, eqb-true, false≢true, true≢false}
 use Rattle.law_common.proofs.Booleans.{not_high}
 use Rattle.law_common.proofs.Lists.{nth_all}
 use Rattle.usb_base.specs.declared.endpoints.EpDesc.{EpDesc}
@@ -28,13 +28,15 @@ use Rattle.claims_answers.specs.Telling.{token_of, HasReason}
 use Rattle.claims_driver.specs.InPlace.{capabilities}
 use Rattle.claims_driver.specs.Owners.{is_descriptor}
 use Rattle.claims_driver.specs.Ring.{IsAmong}
-use Rattle.claims_world.specs.BelowStreams.{is_bulk, has_port, has_hub, heard_clear, SparesHub, LeavesTranslator}
-use Rattle.claims_world.specs.Quiet.{LeavesBuffers, is_unfailing}
+use Rattle.claims_world.specs.BelowStreams.{has_port, has_hub, heard_clear, SparesHub, LeavesTranslator}
+use Rattle.claims_world.specs.Quiet.{LeavesBuffers, is_interrupt, is_unfailing}
 use Rattle.drv_periodic_table.specs.Periodic.{is_periodic}
 use Rattle.drv_table.specs.declared.content.Endpoint.{Endpoint}
 use Rattle.drv_table.specs.declared.content.Transfer.{Transfer}
-use Rattle.drv_table.specs.Words.{is_high, is_control}
+use Rattle.drv_table.specs.Kinds.{is_iso}
+use Rattle.drv_table.specs.Words.{is_high}
 use Rattle.law_driver.proofs.Common.{among_later}
+use Rattle.law_driver.proofs.lemmas.queued_drivers.RowEvents.{queue_of_transfer}
 use Rattle.law_driver.specs.queued_drivers.Queued.{queued, with_queue}
 use Rattle.law_driver.specs.endpoint_lives.Lives.{is_one_of}
 use Rattle.law_driver_ring.specs.fed_queues.Places.{IsMet}
@@ -54,11 +56,11 @@ use Rattle.law_reports.specs.pipes.below_hubs.BehindLaws.{hub_of, place_of}
 use Rattle.law_reports.proofs.lemmas.pipes.lemmas.below_hubs.BehindMoments.{texts_are_behind}
 use Rattle.law_reports.proofs.lemmas.pipes.lemmas.below_hubs.InwardReporting.{position_passes}
 use Rattle.law_reports.proofs.lemmas.pipes.lemmas.hub_setups.Moments.{lines_spare_hubs}
-use Rattle.law_reports.specs.quiet.Awaiting.{is_bulk_below, is_bulk_asked, SparesBuffers, IsAwaitedWorld}
-use Rattle.law_reports.specs.quiet.AwaitingLaws.{TextsAreAwaited, TextsSpareBulk}
+use Rattle.law_reports.specs.quiet.Awaiting.{is_buffered, is_buffered_below, is_buffered_asked, SparesBuffers, IsAwaitedWorld}
+use Rattle.law_reports.specs.quiet.AwaitingLaws.{TextsAreAwaited, TextsSpareBuffered}
 use Rattle.law_reports.specs.quiet.Errors.{key_of, TokenHasLeft}
 use Rattle.law_reports.specs.quiet.Heard.{IsHeardWorld}
-use Rattle.law_reports.proofs.lemmas.quiet.AwaitedDriven.{slow_bulk}
+use Rattle.law_reports.proofs.lemmas.quiet.AwaitedDriven.{slow_buffered}
 use Rattle.law_reports.proofs.lemmas.quiet.AwaitedOpens.{texts_open_awaited}
 use Rattle.law_reports.proofs.lemmas.quiet.AwaitedWorlds.{texts_are_awaited as worlds_are_awaited}
 use Rattle.law_reports.proofs.lemmas.quiet.Heards.{texts_are_heard}
@@ -72,11 +74,11 @@ unmasked : (x : EpDesc) → bits 7 0 (capabilities x) ≡ 0
 unfolding qh_words
 unmasked x = omega arith
 
-bulk_is : (kind : EpKind) → is_bulk kind ≡ true → kind ≡ kinds.Bulk
-bulk_is kinds.Bulk is = refl
-bulk_is kinds.Iso is = absurd (false≢true is)
-bulk_is kinds.Interrupt is = absurd (false≢true is)
-bulk_is kinds.Control is = absurd (false≢true is)
+ringed_by : (kind : EpKind) → is_buffered kind ≡ true → is_periodic kind ≡ false
+ringed_by kinds.Bulk is = refl
+ringed_by kinds.Control is = refl
+ringed_by kinds.Iso is = absurd (false≢true is)
+ringed_by kinds.Interrupt is = absurd (false≢true is)
 
 or_cases : (a b : Bool) → (a || b) ≡ true → (a ≡ true) ⊎ (b ≡ true)
 or_cases true b is = inl refl
@@ -85,15 +87,15 @@ or_cases false b is = inr is
 module _ (s : Script) (w : World) (puts : ℕ → List ℕ) (k : IsAwaitedWorld s puts w) (t : ℕ) (y : Transfer) (x : Endpoint)
     (there : slice_get w.driver.transfers t ≡ Some y)
     (here : slice_get w.driver.endpoints y.endpoint ≡ Some x) (sort : is_descriptor y.sort ≡ false) (untold : y.reported ≡ false)
-    (going : x.ended ≡ None) (below : is_bulk_below x.desc ≡ true) where
+    (going : x.ended ≡ None) (below : is_buffered_below x.desc ≡ true) where
   mixed : IsMixedAt k.standing w
   mixed = k.piped.mixed
 
   abbrev piped : HasPiped (fixed_of s) (sides_of s) w
   piped = record { standing = k.standing; lines = k.lines; heads = k.heads; piped = k.piped }
 
-  kind_is : x.desc.kind ≡ kinds.Bulk
-  kind_is = bulk_is x.desc.kind (and_parts (is_bulk x.desc.kind) (not (is_high x.desc.speed)) below).0
+  ringed : is_periodic x.desc.kind ≡ false
+  ringed = ringed_by x.desc.kind (and_parts (is_buffered x.desc.kind) (not (is_high x.desc.speed)) below).0
 
   met : IsMet (queued w.driver) y.endpoint (with_queue x)
   met = is_met k.standing w k.piped.mixed t y x there here sort untold going
@@ -114,7 +116,7 @@ module _ (s : Script) (w : World) (puts : ℕ → List ℕ) (k : IsAwaitedWorld 
   rings : (x.linked ≡ true) ⊎ IsAmong y.endpoint (w.driver.rung ++ w.driver.waiting)
   rings =
       ⊎_elim (λ (linked : (if is_periodic x.desc.kind then not x.gone else x.linked) ≡ true).
-      inl (ap (λ (kind : EpKind). if is_periodic kind then not x.gone else x.linked) (sym kind_is) ∙ linked))
+      inl (ap (λ (b : Bool). if b then not x.gone else x.linked) (sym ringed) ∙ linked))
       (λ (other : (is_one_of y.endpoint w.driver.waiting || is_one_of y.endpoint w.driver.rung) ≡ true).
       inr (⊎_elim (λ (waits : is_one_of y.endpoint w.driver.waiting ≡ true).
       among_later y.endpoint w.driver.rung w.driver.waiting (one_among y.endpoint w.driver.waiting waits))
@@ -129,17 +131,15 @@ module _ (s : Script) (w : World) (puts : ℕ → List ℕ) (k : IsAwaitedWorld 
       (read_fields w.memory (32 * x.queue) q read).smask
       ∙ ap (bits 7 0) (k.piped.mixed.now.framed.place.fixed.each y.endpoint x here rings).capabilities ∙ unmasked x.desc
 
-  on : is_bulk_asked (key_of q) ≡ true
+  on : is_buffered_asked (key_of q) ≡ true
   on =
-      and_from (not (q.eps == 2)) (q.smask == 0 && not q.dtc)
-      (ap not (ap (λ (z : Told). z.speed == 2) own ∙ slow_bulk x.desc below))
-      (and_from (q.smask == 0) (not q.dtc) (eq-eqb q.smask 0 smask)
-      (ap (λ (z : Told). not z.dtc) own ∙ ap (λ (kind : EpKind). not (is_control kind)) kind_is))
+      and_from (not (q.eps == 2)) (q.smask == 0) (ap not (ap (λ (z : Told). z.speed == 2) own ∙ slow_buffered x.desc below))
+      (eq-eqb q.smask 0 smask)
 
   none_left : (get last : Bool) (what : What) → HasReason get last (token_of w.memory y.place) what → what ≡ lines.Halt causes.Error → ⊥
   none_left get last what reason is =
       let f = token_there k.standing w k.piped.mixed t y x there here sort untold going in
-      let left : TokenHasLeft is_bulk_asked (key_of q) f.qtd.token = (k.left.parts (32 * x.queue)).elements q (32 * y.place) f.qtd
+      let left : TokenHasLeft is_buffered_asked (key_of q) f.qtd.token = (k.left.parts (32 * x.queue)).elements q (32 * y.place) f.qtd
       (part_there k.standing w k.piped.mixed t y x there here sort untold going).here f.here in
       let same : token_of w.memory y.place ≡ f.qtd.token = token_read k.standing w k.piped.mixed t y x there here sort untold going in
       let told = error_told get last (token_of w.memory y.place) what reason is in
@@ -151,9 +151,18 @@ reads_spared : (s : Script) (w : World) (puts : ℕ → List ℕ) → IsHeardWor
     → ReadsNone is_unfailing (lines.Halt causes.Error) w
 reads_spared s w puts heard k t y x there here sort untold going bad get last what reason is = by (is_high x.desc.speed) refl
   where
-    slow : is_high x.desc.speed ≡ false → is_bulk_below x.desc ≡ true
-    slow off = and_from (is_bulk x.desc.kind) (not (is_high x.desc.speed))
-        (ap (λ (b : Bool). b || is_bulk x.desc.kind) (sym off) ∙ bad) (ap not off)
+    -- a queue is no isochronous endpoint's
+    buffered : (kind : EpKind) → is_iso kind ≡ false → not (is_interrupt kind) ≡ true → is_buffered kind ≡ true
+    buffered kinds.Bulk queue other = refl
+    buffered kinds.Control queue other = refl
+    buffered kinds.Iso queue other = absurd (true≢false queue)
+    buffered kinds.Interrupt queue other = absurd (false≢true other)
+
+    slow : is_high x.desc.speed ≡ false → is_buffered_below x.desc ≡ true
+    slow off = and_from (is_buffered x.desc.kind) (not (is_high x.desc.speed))
+        (buffered x.desc.kind
+        (queue_of_transfer w.driver t y x there here sort k.piped.mixed.now.framed.place.sound.owners.orderly)
+        (ap (λ (b : Bool). b || not (is_interrupt x.desc.kind)) (sym off) ∙ bad)) (ap not off)
 
     by : (b : Bool) → is_high x.desc.speed ≡ b → ⊥
     by true high = reads_unfailed s w heard t y x there here sort untold going high get last what reason is
@@ -174,12 +183,9 @@ module _ (text : List ℕ) (s : Script) (spelled : Spells text s) where
           (subst (Holds (λ (z : HubText). AllByRecursion (λ l. SparesHub z.addr l.1) s.lines)) found
           (all_find (λ (z : HubText). AllByRecursion (λ l. SparesHub z.addr l.1) s.lines) (λ (z : HubText). z.addr == hub) s.hubs leaves))
 
-  hub_number : (x : EpDesc) → is_bulk_below x ≡ true → has_hub s x.hub x.port ≡ true → Some (asked_as x).hub ≡ x.hub
-  hub_number x below has = by x.hub refl
+  hub_number : (x : EpDesc) → is_high x.speed ≡ false → has_hub s x.hub x.port ≡ true → Some (asked_as x).hub ≡ x.hub
+  hub_number x slow has = by x.hub refl
     where
-      slow : is_high x.speed ≡ false
-      slow = not_high (is_high x.speed) (sym (and_parts (is_bulk x.kind) (not (is_high x.speed)) below).1)
-
       by : (o : Option ℕ) → x.hub ≡ o → Some (asked_as x).hub ≡ x.hub
       by None is = absurd (false≢true (ap (λ (o : Option ℕ). has_hub s o x.port) (sym is) ∙ has))
       by (Some hub) is =
@@ -188,7 +194,8 @@ module _ (text : List ℕ) (s : Script) (spelled : Spells text s) where
 
   spares : LeavesBuffers s → (j : ℕ) → SparesBuffers s (moment s j).world
   spares leaves j x o below h here =
-      let has : has_hub s x.hub x.port ≡ true = texts_have_hubs text s spelled x o below in
+      let slow : is_high x.speed ≡ false = not_high (is_high x.speed) (sym (and_parts (is_buffered x.kind) (not (is_high x.speed)) below).1) in
+      let has : has_hub s x.hub x.port ≡ true = texts_have_hubs text s spelled x o slow in
       let at : IsAtHub (wired (fixed_of s) (moment s j).world).bus.hubs (asked_as x).hub (asked_as x).port (hub_of s x.hub)
       (place_of s x.hub x.port) =
       (texts_are_behind text s spelled j).behind.hubs (asked_as x).hub (asked_as x).port (hub_of s x.hub) (place_of s x.hub x.port)
@@ -197,14 +204,14 @@ module _ (text : List ℕ) (s : Script) (spelled : Spells text s) where
       position_passes (λ (c : HubContent). c.address == (asked_as x).hub) (moment s j).world.bus.hubs (hub_of s x.hub) h at.found here in
       nth_all (λ (c : HubContent). Some c.address ≡ x.hub → heard_clear c ≡ false) (moment s j).world.bus.hubs (hub_of s x.hub) h
       (lines_spare_hubs text s x spelled (leaves_one leaves x has) j) here
-      (ap (λ (a : ℕ). Some a) (eqb-true h.address (asked_as x).hub address) ∙ hub_number x below has)
+      (ap (λ (a : ℕ). Some a) (eqb-true h.address (asked_as x).hub address) ∙ hub_number x slow has)
 
 pub texts_are_awaited : TextsAreAwaited
 texts_are_awaited text s spelled packets sparing =
     worlds_are_awaited text s spelled packets (texts_open_awaited text s spelled (texts_have_hubs text s spelled)) sparing
 
-pub texts_spare_bulk : TextsSpareBulk
-texts_spare_bulk text s spelled above leaves k =
+pub texts_spare_buffered : TextsSpareBuffered
+texts_spare_buffered text s spelled above leaves k =
     lines_below is_unfailing (lines.Halt causes.Error) of_errors s
     (λ j. reads_spared s (moment s j).world _ (texts_are_heard text s spelled above j)
     (texts_are_awaited text s spelled above.packets (spares text s spelled leaves) j)) k

@@ -1,4 +1,4 @@
--- Host and hub of each bulk endpoint below a hub stand as they must at each moment of each script whose packets on the high-speed bus all
+-- Host and hub of each bulk and control endpoint below a hub stand as they must at each moment of each script whose packets on the high-speed bus all
 -- get through, and none of whose requests takes a key from a hub.
 use Rattle.std.proofs.Common.{ℕ, List, Result, Ok, Err}
 use Rattle.std.proofs.Common.{refl, sym, subst}
@@ -69,7 +69,7 @@ use Rattle.law_reports.proofs.lemmas.pipes.lemmas.puts.Commanded.{commanded_pays
 use Rattle.law_reports.proofs.lemmas.pipes.lemmas.puts.DrivenPays.{driven_pays}
 use Rattle.law_reports.proofs.lemmas.pipes.lemmas.puts.Event.{controlled_pays}
 use Rattle.law_reports.proofs.lemmas.pipes.lemmas.puts.PaidMoments.{CanBePaid, lines_paid, new_pays}
-use Rattle.law_reports.specs.quiet.Awaiting.{is_bulk_asked, AreNumbered, HubsStand, SparesBuffers}
+use Rattle.law_reports.specs.quiet.Awaiting.{is_buffered_asked, AreNumbered, HubsStand, SparesBuffers}
 use Rattle.law_reports.specs.quiet.Awaiting.{IsAwaitedWorld}
 use Rattle.law_reports.specs.quiet.AwaitingLaws.{OpensAwaited}
 use Rattle.law_reports.proofs.lemmas.quiet.AwaitedCommanded.{commanded_awaited}
@@ -139,7 +139,7 @@ module _ (s : Script) (w : World) (puts : ℕ → List ℕ) (k : IsAwaitedWorld 
     pays = driven_pays (fixed_of s) (sides_of s) k.standing k.lines k.heads puts w k.piped k.pays t step mixed next;
     behind = driver_leaves_behind (fixed_of s) (sides_of s) (spots_of s) k.standing k.lines k.heads puts w k.piped k.pays k.behind t step
         mixed next;
-    left = driver_leaves_errors is_bulk_asked k.standing w t k.piped.mixed step k.left;
+    left = driver_leaves_errors is_buffered_asked k.standing w t k.piped.mixed step k.left;
     awaited = driven_awaited s k.standing k.lines k.heads puts w k.piped k.pays k.behind k.awaited k.hubs t step other mixed;
     hubs = k.hubs;
     numbers = k.numbers;
@@ -155,7 +155,7 @@ module _ (s : Script) (w : World) (puts : ℕ → List ℕ) (k : IsAwaitedWorld 
     pays = driven_pays (fixed_of s) (sides_of s) k.standing k.lines k.heads puts w k.piped k.pays t (opens at t alike opened) mixed next;
     behind = driver_leaves_behind (fixed_of s) (sides_of s) (spots_of s) k.standing k.lines k.heads puts w k.piped k.pays k.behind t
         (opens at t alike opened) mixed next;
-    left = driver_leaves_errors is_bulk_asked k.standing w t k.piped.mixed (opens at t alike opened) k.left;
+    left = driver_leaves_errors is_buffered_asked k.standing w t k.piped.mixed (opens at t alike opened) k.left;
     awaited = opened_awaited s k.standing k.lines k.heads puts w k.piped k.pays k.behind k.awaited k.hubs at t alike opened mixed next;
     hubs = k.hubs;
     numbers = k.numbers;
@@ -210,12 +210,11 @@ new_world_awaited s fit bytes unsent opens_so = record {
   piped = new_piped s fit bytes;
   pays = new_pays s new_standing no_lines;
   behind = new_behind s new_standing no_lines unsent;
-  left = record { parts = head_alone is_bulk_asked refl; in_hand = tt; first = tt };
+  left = record { parts = head_alone is_buffered_asked refl; in_hand = tt; first = tt };
   awaited = record {
     served = λ e y here. absurd (none_there s e y here);
     met = λ e y here is is_met. absurd (none_there s e y here);
-    fresh_ins = λ addr ep on unused x o is way at num. (opens_so x o is).key;
-    fresh_outs = λ addr ep on unused x o is way at num. (opens_so x o is).key;
+    fresh = λ way addr ep on unused x o is same at num. (opens_so x o is).keys;
   };
   hubs = λ x o is. (opens_so x o is).hub;
   numbers = λ place seat here. record { number = 0; is = zeros (seats_of s) place seat here };
