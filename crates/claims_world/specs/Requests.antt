@@ -8,6 +8,8 @@
 --     is_opening d x             endpoint x is being opened: its queue head isn't in the ring yet
 --     setup_at d a               the number of the first request of the driver that isn't given back and whose first qTD stands at a
 --     acted_between c z          on what a device acted between these stages
+--     stages_at w addr num       where the device of the control endpoint of this address and number is, wherever its seat is: on the
+--                                high-speed bus, or below a hub; or where the hub is, whose own it is
 --     Windows                    by the number of an endpoint the request whose window is open, and by that of a transfer the acts in its
 --                                window
 --     recorded d begun acted v   these after an event that sent that SETUP, if any, and in which the device of each endpoint acted so
@@ -52,10 +54,15 @@ use Rattle.drv_table.specs.Words.{is_control}
 use Rattle.hc_copy.specs.declared.held.Held.{Held}
 use Rattle.hc_core.specs.declared.controller.HcStep.{HcStep}
 use Rattle.hc_core.specs.declared.controller.HcStep.TheVariants as steps
-use Rattle.bus_wire.specs.Bus.{Fixed, Wired, fixed_of}
+use Rattle.bus_wire.specs.declared.seats.Owner.{Owner}
+use Rattle.bus_wire.specs.declared.seats.Owner.TheVariants as Owners
+use Rattle.bus_wire.specs.declared.seats.Seat.{Seat}
+use Rattle.bus_wire.specs.declared.seats.TokenKind.TheVariants as Tokens
+use Rattle.bus_wire.specs.Seats.{place_for}
+use Rattle.bus_wire.specs.Bus.{Bus, Fixed, Wired, fixed_of}
 use Rattle.claims_report.specs.Acts.{IsOnce, acts_if, done_of}
 use Rattle.claims_report.specs.ControlSides.{Device}
-use Rattle.claims_report.specs.Controls.{control_of, is_at, is_of_hub}
+use Rattle.claims_report.specs.Controls.{control_of_device, is_at, is_of_hub}
 use Rattle.claims_report.specs.Reports.{WholeReport, lines_of, acted}
 use Rattle.claims_report.specs.Requests.{data_of, requests, Request, Window, has_acted, AreTold, AreRightRequests}
 use Rattle.bus_world.specs.Budgets.{moment}
@@ -97,6 +104,31 @@ endpoint_of d t = option_map (λ y. y.endpoint) (slice_get d.transfers t)
 abbrev pub acted_between : Stages → Stages → List (List ℕ)
 acted_between c z = acts_if (done_of z.request) c.request
 
+-- ---- where it is
+
+abbrev pub stages_of : Option Device → Option Stages
+stages_of o = option_map (λ c. c.stages) o
+
+abbrev pub stages_of_owner : Bus → ℕ → ℕ → Owner → Option Stages
+stages_of_owner b addr num (Owners.High place) = stages_of (control_of_device addr num (slice_get b.devices place))
+stages_of_owner b addr num (Owners.Hub place) = option_map (λ h. h.control) (slice_get b.hubs place)
+stages_of_owner b addr num (Owners.Below place hub port stuff) = stages_of (control_of_device addr num (slice_get b.devices place))
+
+abbrev pub stages_of_seat : Bus → ℕ → ℕ → Option Seat → Option Stages
+stages_of_seat b addr num None = None
+stages_of_seat b addr num (Some seat) = stages_of_owner b addr num seat.owner
+
+-- SETUP, IN and OUT are for the same seat
+abbrev pub stages_of_place : Wired → ℕ → ℕ → Option ℕ → Option Stages
+stages_of_place w addr num None = None
+stages_of_place w addr num (Some place) =
+    if is_at place (place_for w.fixed.seats addr num Tokens.In) && is_at place (place_for w.fixed.seats addr num Tokens.Out) then
+    stages_of_seat w.bus addr num (slice_get w.fixed.seats place)
+    else None
+
+abbrev pub stages_at : Wired → ℕ → ℕ → Option Stages
+stages_at w addr num = stages_of_place w addr num (place_for w.fixed.seats addr num Tokens.Setup)
+
 -- ---- the windows
 
 pub record Windows : Type 0 where
@@ -136,12 +168,12 @@ abbrev pub wired : Fixed → World → Wired
 wired fixed w = record { fixed = fixed; bus = w.bus }
 
 -- the device of an endpoint of the driver
-abbrev pub side_of : Fixed → World → Option Endpoint → Option Device
+abbrev pub side_of : Fixed → World → Option Endpoint → Option Stages
 side_of fixed w None = None
-side_of fixed w (Some x) = control_of (wired fixed w) x.desc.name.addr x.desc.name.num
+side_of fixed w (Some x) = stages_at (wired fixed w) x.desc.name.addr x.desc.name.num
 
-abbrev pub acted_with : Option Device → Option Device → List (List ℕ)
-acted_with (Some c) (Some z) = acted_between c.stages z.stages
+abbrev pub acted_with : Option Stages → Option Stages → List (List ℕ)
+acted_with (Some c) (Some z) = acted_between c z
 acted_with _ _ = []
 
 abbrev pub acted_by : Fixed → World → World → ℕ → List (List ℕ)

@@ -15,6 +15,7 @@ pub mod SampledHalts
 pub mod SampledComing
 pub mod Lists
 pub mod Acting
+pub mod Seats
 pub mod Counts
 pub mod TransferChanging
 pub mod TransferEvents

@@ -1,5 +1,5 @@
 -- What is recorded of the requests of control endpoints at an event of the controller (EHCI 1.0, 4.6 and 4.10; USB 2.0, 8.5.3).
---     IsLeftAlone fixed w new x  the device of an endpoint of this name stays as it is
+--     IsLeftAlone fixed w new x  there is a device of an endpoint of this name, and it stays as it is
 --     IsOwned ..                 what stands in memory is the driver's, and each run of blocks has one owner
 --     EventKeepsRecords          the law
 --     EventKeepsClosed           .. and the acts of closed windows stay, and where the queue is at rest those of all
@@ -16,6 +16,7 @@ use Rattle.dev_control.specs.Stages.{Stages}
 use Rattle.law_ring.specs.Hand.{Hand}
 use Rattle.claims_base.specs.Controller.{Base}
 use Rattle.law_devices.specs.ring_requests.Windows.{Queue}
+use Rattle.claims_report.specs.ControlSides.{Device}
 use Rattle.claims_report.specs.Controls.{control_of}
 use Rattle.law_devices.specs.scripted_requests.Controls.{transacts_by, begins_by}
 use Rattle.law_driver_ring.specs.Inventory.{sorts_of, IsDriven}
@@ -27,8 +28,10 @@ use Rattle.law_reports.specs.requests.Courses.{Course, Rests, have_queues, Cours
 use Rattle.law_reports.specs.requests.QueueEvents.{courses_after, CoursesGoOn}
 use Rattle.law_reports.specs.requests.Records.{Numbers, AreRecords}
 
-abbrev pub IsLeftAlone : Fixed → World → World → DriverEndpoint → Type 0
-IsLeftAlone fixed w new x = control_of (wired fixed new) x.desc.name.addr x.desc.name.num ≡ control_of (wired fixed w) x.desc.name.addr x.desc.name.num
+pub record IsLeftAlone (fixed : Fixed) (w new : World) (x : DriverEndpoint) : Type 0 where
+  pub device : Device
+  pub before : control_of (wired fixed w) x.desc.name.addr x.desc.name.num ≡ Some device
+  pub after : control_of (wired fixed new) x.desc.name.addr x.desc.name.num ≡ Some device
 
 pub record IsOwned (d : DriverContent) (parts : StructureSets) : Type 0 where
   pub owners : HasOwners d

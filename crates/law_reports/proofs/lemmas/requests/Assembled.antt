@@ -258,7 +258,7 @@ module _ (g : Sides) (fixed : Fixed) (member : ℕ → Bool) (x : Streams) (s : 
       ap (λ (o : Option DriverEndpoint). left_with g w.driver e o) is.here ∙ and_from (g.asks z.desc) (not (may_meet w.driver e z)) is.control (ap not off) in
       record {
         device = h.device;
-        is = goes.left e z left is.here ∙ h.is;
+        is = (goes.left e z left is.here).after ∙ sym (goes.left e z left is.here).before ∙ h.is;
         acted = h.acted ∙ sym (counted_same v later (numbers_of w.driver e) 0 (goes.closed.left e left));
       }
 

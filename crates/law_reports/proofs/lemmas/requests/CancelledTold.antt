@@ -41,6 +41,7 @@ use Rattle.law_reports.specs.pipes.Declared.{Sides as Pipes}
 use Rattle.law_reports.proofs.lemmas.pipes.Across.{row_ends}
 use Rattle.law_reports.specs.requests.Asking.{Sides, has_left, left_with, IsUnheard, IsMetControl}
 use Rattle.law_reports.specs.requests.Footing.{IsFooting}
+use Rattle.law_reports.specs.requests.TransferEvents.{IsLeftAlone}
 use Rattle.law_reports.specs.requests.HighAsking.{told_world, told_standing, told_streams, HasHighAsks}
 use Rattle.law_reports.specs.requests.Telling.{IsUncancelled}
 use Rattle.law_reports.specs.requests.told_requests.Told.{has_cancel}
@@ -56,7 +57,7 @@ use Rattle.law_reports.proofs.lemmas.requests.HighOpened.{told_as}
 use Rattle.law_reports.proofs.lemmas.requests.HighWindows.{numbers_told}
 use Rattle.law_reports.proofs.lemmas.requests.Lists.{all_map, numbers_are}
 use Rattle.law_reports.proofs.lemmas.requests.Telling.{telling_is_told}
-use Rattle.law_reports.proofs.lemmas.requests.TransferEvents.{acted_same}
+use Rattle.law_reports.proofs.lemmas.requests.TransferEvents.{none_acts}
 
 -- ---- a control endpoint that the walk may meet
 
@@ -271,16 +272,17 @@ module _ (g : Sides) (fixed : Fixed) (p : Pipes) (v : Windows) (asks : ℕ → R
     still_asked : g.asks (queued_endpoint z).desc ≡ true
     still_asked = ap (λ (u : Endpoint). g.asks u.desc) (told g fixed p v asks w h i z here control on) ∙ on
 
-    quiet : control_of (wired fixed (controller_next fixed w)) u.desc.name.addr u.desc.name.num
-        ≡ control_of (wired fixed w) u.desc.name.addr u.desc.name.num → acted_by fixed w (controller_next fixed w) i ≡ []
+    quiet : IsLeftAlone fixed (told_world w) (controller_next fixed (told_world w)) (queued_endpoint z)
+        → acted_by fixed w (controller_next fixed w) i ≡ []
     quiet waits =
-        let same : control_of (wired fixed (controller_next fixed w)) z.desc.name.addr z.desc.name.num
-        ≡ control_of (wired fixed w) z.desc.name.addr z.desc.name.num =
-        subst (λ (n : EpName). control_of (wired fixed (controller_next fixed w)) n.addr n.num ≡ control_of (wired fixed w) n.addr n.num)
-        (name_same z) waits in
         ap (λ (o : Option Endpoint). acted_with (side_of fixed w o) (side_of fixed (controller_next fixed w) o)) here
-        ∙ ap (acted_with (control_of (wired fixed w) z.desc.name.addr z.desc.name.num)) same
-        ∙ acted_same (control_of (wired fixed w) z.desc.name.addr z.desc.name.num)
+        ∙ none_acts fixed w (controller_next fixed w) z
+        (record {
+          device = waits.device;
+          before = subst (λ (n : EpName). control_of (wired fixed w) n.addr n.num ≡ Some waits.device) (name_same z) waits.before;
+          after = subst (λ (n : EpName). control_of (wired fixed (controller_next fixed w)) n.addr n.num ≡ Some waits.device) (name_same z)
+              waits.after;
+        })
 
     -- the device of one that left stays as it is
     left : may_meet (queued w.driver) i (queued_endpoint z) ≡ false → IsToldBefore w.driver asks (after_event fixed w v) g.whole i z

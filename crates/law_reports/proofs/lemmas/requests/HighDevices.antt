@@ -46,6 +46,7 @@ use Rattle.law_reports.proofs.lemmas.pipes.Controlled.{c, z}
 use Rattle.law_reports.proofs.lemmas.pipes.IsoBeside.{IsNamedIso, itd_named, sitd_named}
 use Rattle.law_reports.specs.requests.Asking.{Sides, Asking, has_left, IsUnopened}
 use Rattle.law_reports.specs.requests.Footing.{IsFooting}
+use Rattle.law_reports.specs.requests.TransferEvents.{IsLeftAlone}
 use Rattle.law_reports.specs.requests.HighAsking.{told_world, told_standing, told_streams, AreSuited, AsksAt}
 use Rattle.law_reports.proofs.lemmas.requests.HighFooting.{real_control}
 use Rattle.law_reports.proofs.lemmas.requests.Names.{left_is, not_met, has_device}
@@ -156,19 +157,21 @@ module _ (fixed : Fixed) (x : Pipes) (s : Standing) (m : Lines) (h : Heads) (w :
           (real_control g fixed x s m h w k head suited i t there (ap (λ (b : Endpoint). is_control b.desc.kind) (sym one) ∙ on)) iso
 
       pub left_waits : (e : ℕ) (y : Endpoint) → has_left g (queued w.driver) e ≡ true → slice_get (queued w.driver).endpoints e ≡ Some y
-          → control_of (wired fixed (controller_next fixed w)) y.desc.name.addr y.desc.name.num
-          ≡ control_of (wired fixed w) y.desc.name.addr y.desc.name.num
+          → IsLeftAlone fixed (told_world w) (controller_next fixed (told_world w)) y
       left_waits e y left here =
           let is = left_is g (queued w.driver) e y here left in
           let device = has_device s.near (told_streams s) (told_standing s m) (told_world w) f g fixed a v asks q e y
           (record { here = here; control = is.0 }) in
           let on : is_control y.desc.kind ≡ true = g.controls y.desc is.0 in
-          device_unmet y.desc.name.addr y.desc.name.num device.0 (q.given e y (record { here = here; control = is.0 })).addressed
-          (control_no_iso e y here on)
-          (λ i t there met address number.
-          let at : e ≡ i = f.apart e i y t here on there address number in
-          let one : t ≡ y = same_Some t y (sym there ∙ ap (slice_get (queued w.driver).endpoints) (sym at) ∙ here) in
-          true≢false (sym met.near ∙ ap (λ (j : ℕ). may_meet (queued w.driver) j t) (sym at)
-          ∙ ap (λ (u : Endpoint). may_meet (queued w.driver) e u) one ∙ is.1))
-          device.1
-          ∙ sym device.1
+          record {
+            device = device.0;
+            before = device.1;
+            after = device_unmet y.desc.name.addr y.desc.name.num device.0 (q.given e y (record { here = here; control = is.0 })).addressed
+                (control_no_iso e y here on)
+                (λ i t there met address number.
+                let at : e ≡ i = f.apart e i y t here on there address number in
+                let one : t ≡ y = same_Some t y (sym there ∙ ap (slice_get (queued w.driver).endpoints) (sym at) ∙ here) in
+                true≢false (sym met.near ∙ ap (λ (j : ℕ). may_meet (queued w.driver) j t) (sym at)
+                ∙ ap (λ (u : Endpoint). may_meet (queued w.driver) e u) one ∙ is.1))
+                device.1;
+          }

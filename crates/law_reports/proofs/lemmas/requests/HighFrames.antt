@@ -58,6 +58,7 @@ use Rattle.law_reports.specs.requests.Records.{Numbers, IsOnceAt, IsClosed, IsRe
 use Rattle.law_reports.specs.requests.TransferEvents.{ClosedStay}
 use Rattle.law_reports.proofs.lemmas.requests.lemmas.world_requests.Begun.{begun_between, kind_begins}
 use Rattle.law_reports.proofs.lemmas.requests.lemmas.world_requests.Queues.{quiet_acts, recorded_stays}
+use Rattle.law_reports.specs.requests.TransferEvents.{IsLeftAlone}
 use Rattle.law_reports.proofs.lemmas.requests.Assembled.{course_device, RequestsGoOn}
 use Rattle.law_reports.proofs.lemmas.requests.Beside.{HasOwner, owner_of}
 use Rattle.law_reports.proofs.lemmas.requests.Counts.{counted_same}
@@ -66,7 +67,7 @@ use Rattle.law_reports.proofs.lemmas.requests.HighFooting.{ring_of}
 use Rattle.law_reports.proofs.lemmas.requests.HighRing.{now, later, member_of, all_stand, lent_words}
 use Rattle.law_reports.proofs.lemmas.requests.Lists.{all_map, all_both, numbers_are}
 use Rattle.law_reports.proofs.lemmas.requests.Names.{one_endpoint}
-use Rattle.law_reports.proofs.lemmas.requests.TransferEvents.{acted_same}
+use Rattle.law_reports.proofs.lemmas.requests.TransferEvents.{none_acts}
 use Rattle.law_reports.proofs.lemmas.requests.Writing.{same_kept}
 
 -- ---- what is in hand
@@ -217,11 +218,16 @@ module _ (g : Sides) (fixed : Fixed) (x : Pipes) (s : Standing) (m : Told_lines)
         let d = course_device fixed w s.parts s.hand n (a.courses n) has (q.stand.each n) in
         device_stays d.0 d.1 ∙ sym d.1
 
-    own_same : control_of after owner.endpoint.desc.name.addr owner.endpoint.desc.name.num
-        ≡ control_of wire owner.endpoint.desc.name.addr owner.endpoint.desc.name.num
-    own_same =
-        subst (λ (i : ℕ). control_of after i owner.endpoint.desc.name.num ≡ control_of wire i owner.endpoint.desc.name.num) address_is
-        (subst (λ (i : ℕ). control_of after queue.endpoint.addr i ≡ control_of wire queue.endpoint.addr i) number_is device_same)
+    own_device : (v : Wired) (d : Device) → control_of v (queue_in (a.courses n)).endpoint.addr (queue_in (a.courses n)).endpoint.num ≡ Some d
+        → control_of v owner.endpoint.desc.name.addr owner.endpoint.desc.name.num ≡ Some d
+    own_device v d is =
+        subst (λ (i : ℕ). control_of v i owner.endpoint.desc.name.num ≡ Some d) address_is
+        (subst (λ (i : ℕ). control_of v queue.endpoint.addr i ≡ Some d) number_is is)
+
+    own_alone : IsLeftAlone fixed (told_world w) (controller_next fixed (told_world w)) owner.endpoint
+    own_alone =
+        let d = course_device fixed w s.parts s.hand n (a.courses n) has (q.stand.each n) in
+        record { device = d.0; before = own_device wire d.0 d.1; after = own_device after d.0 (device_stays d.0 d.1) }
 
   -- ---- the queues
 
@@ -263,13 +269,10 @@ module _ (g : Sides) (fixed : Fixed) (x : Pipes) (s : Standing) (m : Told_lines)
       kind_begins fixed u (λ other. nothing_held)
       ∙ ap (λ (o : Option Held). begun_between (queued w.driver) o nu.control.walk.held) nothing_held
 
-  acted_none : (i : ℕ) (y : Endpoint) → slice_get (queued w.driver).endpoints i ≡ Some y
-      → control_of after y.desc.name.addr y.desc.name.num ≡ control_of wire y.desc.name.addr y.desc.name.num
+  acted_none : (i : ℕ) (y : Endpoint) → slice_get (queued w.driver).endpoints i ≡ Some y → IsLeftAlone fixed u nu y
       → acted_by fixed (told_world w) (controller_next fixed (told_world w)) i ≡ []
-  acted_none i y here same =
-      ap (λ (o : Option Endpoint). acted_with (side_of fixed u o) (side_of fixed nu o)) here
-      ∙ ap (λ (o : Option Device). acted_with (control_of wire y.desc.name.addr y.desc.name.num) o) same
-      ∙ acted_same (control_of wire y.desc.name.addr y.desc.name.num)
+  acted_none i y here alone =
+      ap (λ (o : Option Endpoint). acted_with (side_of fixed u o) (side_of fixed nu o)) here ∙ none_acts fixed u nu y alone
 
   quiet_at : (i : ℕ) → acted_by fixed (told_world w) (controller_next fixed (told_world w)) i ≡ [] → (t : ℕ)
       → owner_of_transfer (queued w.driver) t ≡ Some i → passed.acts t ≡ v.acts t
@@ -284,7 +287,7 @@ module _ (g : Sides) (fixed : Fixed) (x : Pipes) (s : Standing) (m : Told_lines)
     none_here : acted_by fixed (told_world w) (controller_next fixed (told_world w)) (a.numbers n).endpoint ≡ []
     none_here =
         ap (acted_by fixed u nu) (owner n has).is
-        ∙ acted_none (owner n has).number (owner n has).endpoint (owner n has).control.is.here (own_same n has)
+        ∙ acted_none (owner n has).number (owner n has).endpoint (owner n has).control.is.here (own_alone n has)
 
     quiet_here : (t : ℕ) → owner_of_transfer (queued w.driver) t ≡ Some (a.numbers n).endpoint → passed.acts t ≡ v.acts t
     quiet_here t of = quiet_at b.endpoint none_here t of

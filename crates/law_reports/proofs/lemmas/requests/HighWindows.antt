@@ -20,12 +20,12 @@ use Rattle.hc_core.specs.declared.controller.HcStep.TheVariants as steps
 use Rattle.claims_driver.specs.Owners.{is_descriptor}
 use Rattle.law_driver.specs.queued_drivers.Queued.{sort_of_queue, queued_transfer, queued_endpoint, queued}
 use Rattle.law_driver.proofs.lemmas.queued_drivers.CommandFields.{name_same}
-use Rattle.claims_report.specs.ControlSides.{Device}
+use Rattle.dev_control.specs.Stages.{Stages}
 use Rattle.claims_report.specs.Controls.{control_of, is_at}
 use Rattle.bus_world.specs.World.{World, controller_next}
 use Rattle.claims_world.specs.Requests.{numbers_from, numbers_of, wired, is_request, is_setup_at, setup_at, endpoint_of, Windows}
 use Rattle.claims_world.specs.Requests.{acted_with, acts_in, opened_by}
-use Rattle.claims_world.specs.Requests.{begun_in, begun_by, side_of, acted_by, after_event}
+use Rattle.claims_world.specs.Requests.{begun_in, begun_by, stages_at, side_of, acted_by, after_event}
 use Rattle.law_reports.specs.requests.HighAsking.{told_world}
 
 -- ---- transfers
@@ -107,7 +107,7 @@ side_told fixed w d e = ap (side_of fixed w) (slice_get-map queued_endpoint d.en
   where
     by : (o : Option Endpoint) → side_of fixed w (option_map queued_endpoint o) ≡ side_of fixed w o
     by None = refl
-    by (Some x) = ap (λ (n : EpName). control_of (wired fixed w) n.addr n.num) (name_same x)
+    by (Some x) = ap (λ (n : EpName). stages_at (wired fixed w) n.addr n.num) (name_same x)
 
 module _ (fixed : Fixed) (w : World) (v : Windows) where
   abbrev u : World
@@ -118,7 +118,7 @@ module _ (fixed : Fixed) (w : World) (v : Windows) where
 
   acted_at : (e : ℕ) → acted_by fixed (told_world w) (controller_next fixed (told_world w)) e ≡ acted_by fixed w (controller_next fixed w) e
   acted_at e =
-      ap (λ (o : Option Device). acted_with o (side_of fixed (controller_next fixed w) (slice_get (queued w.driver).endpoints e)))
+      ap (λ (o : Option Stages). acted_with o (side_of fixed (controller_next fixed w) (slice_get (queued w.driver).endpoints e)))
       (side_told fixed w w.driver e)
       ∙ ap (acted_with (side_of fixed w (slice_get w.driver.endpoints e))) (side_told fixed (controller_next fixed w) w.driver e)
 

@@ -28,7 +28,7 @@ use Rattle.law_devices.specs.ring_requests.Runs.{first_of}
 use Rattle.claims_report.specs.Controls.{control_of}
 use Rattle.law_devices.specs.scripted_requests.Controls.{transacts_by, begins_by}
 use Rattle.bus_world.specs.World.{World, controller_parts, controller_next}
-use Rattle.claims_world.specs.Requests.{wired, endpoint_of, Windows, side_of, acted_with, begun_by, acted_by, after_event, numbers_of}
+use Rattle.claims_world.specs.Requests.{wired, endpoint_of, Windows, stages_at, side_of, acted_with, begun_by, acted_by, after_event, numbers_of}
 use Rattle.law_reports.specs.requests.world_requests.Requesting.{IsWalked, RingGoesOn, WindowsGoOn, AreAsked}
 use Rattle.law_reports.specs.requests.world_requests.Recording.{AreTransfers, IsRecorded, AreRecorded}
 use Rattle.law_reports.proofs.lemmas.requests.lemmas.world_requests.Acting.{none_acted}
@@ -46,6 +46,7 @@ use Rattle.law_reports.proofs.lemmas.requests.Acting.{others_kept}
 use Rattle.law_reports.proofs.lemmas.requests.Counts.{counted_more, counted_same, counted_first}
 use Rattle.law_reports.proofs.lemmas.requests.TransferChanging.{all_first}
 use Rattle.law_reports.proofs.lemmas.requests.Lists.{all_map, all_both, numbers_are}
+use Rattle.law_reports.proofs.lemmas.requests.Seats.{stages_as}
 
 -- ---- the requests of the queue are the first of them
 
@@ -65,9 +66,14 @@ module _ (d : DriverContent) (asks : ℕ → Request) (n : ℕ) (a : Numbers) wh
   restricted_record v (Asks q b l) on k r = let few = k.ahead.few in record { begun = r.begun; behind = λ i after less. r.behind i after (omega (arith, less, few)); is_open = r.is_open }
   restricted_record v _ on k r = absurd (false≢true on)
 
-pub acted_same : (o : Option Device) → acted_with o o ≡ []
-acted_same None = refl
-acted_same (Some c) = none_acted c.stages
+pub none_acts : (fixed : Fixed) (w new : World) (x : DriverEndpoint) → IsLeftAlone fixed w new x
+    → acted_with (side_of fixed w (Some x)) (side_of fixed new (Some x)) ≡ []
+none_acts fixed w new x alone =
+    ap (λ (o : Option Stages). acted_with o (side_of fixed new (Some x)))
+    (stages_as (wired fixed w) x.desc.name.addr x.desc.name.num alone.device alone.before)
+    ∙ ap (acted_with (Some alone.device.stages))
+    (stages_as (wired fixed new) x.desc.name.addr x.desc.name.num alone.device alone.after)
+    ∙ none_acted alone.device.stages
 
 module _ (fixed : Fixed) (base : Base) (member : ℕ → Bool) (courses : ℕ → Course) (numbers : ℕ → Numbers) (gone : ℕ → Bool) (parts : StructureSets) (hand : Hand) (asks : ℕ → Request) (w : World) (v : Windows) (event : RingGoesOn begins_by transacts_by base member parts hand (wired fixed w) (wired fixed (controller_next fixed w)) (controller_parts (controller_next fixed w))) (g : CoursesGoOn control_of member courses event.effect) (walked : IsWalked base member parts hand (controller_parts w)) (stand : CoursesStand control_of member courses parts hand (wired fixed w)) (owned : IsOwned w.driver parts) (alone : (e : ℕ) (x : DriverEndpoint) → gone e ≡ true → slice_get w.driver.endpoints e ≡ Some x → IsLeftAlone fixed w (controller_next fixed w) x) (rec : AreRecords w.driver asks courses numbers gone v) where
   abbrev d : DriverContent
@@ -183,10 +189,12 @@ module _ (fixed : Fixed) (base : Base) (member : ℕ → Bool) (courses : ℕ �
     none_here =
         let x : IsOfEndpoint w.driver q.endpoint n (numbers n).endpoint = subst (λ (y : Endpoint). IsOfEndpoint w.driver y n (numbers n).endpoint) rested.numbered.ahead.endpoint rested.numbered.own.endpoint in
         ap (λ o. acted_with (side_of fixed w o) (side_of fixed new o)) x.here
-        ∙ ap (λ (i : ℕ). acted_with (control_of (wired fixed w) i x.own.desc.name.num) (control_of (wired fixed new) i x.own.desc.name.num)) x.address
-        ∙ ap (λ (m : ℕ). acted_with (control_of (wired fixed w) q.endpoint.addr m) (control_of (wired fixed new) q.endpoint.addr m)) x.number
-        ∙ ap (λ (o : Option Device). acted_with o (side new)) side_before ∙ ap (λ (o : Option Device). acted_with (Some (device_of q.endpoint c)) o) side_after
-        ∙ acted_same (Some (device_of q.endpoint c))
+        ∙ ap (λ (i : ℕ). acted_with (stages_at (wired fixed w) i x.own.desc.name.num) (stages_at (wired fixed new) i x.own.desc.name.num)) x.address
+        ∙ ap (λ (m : ℕ). acted_with (stages_at (wired fixed w) q.endpoint.addr m) (stages_at (wired fixed new) q.endpoint.addr m)) x.number
+        ∙ ap (λ (o : Option Stages). acted_with o (stages_at (wired fixed new) q.endpoint.addr q.endpoint.num))
+        (stages_as (wired fixed w) q.endpoint.addr q.endpoint.num (device_of q.endpoint c) side_before)
+        ∙ ap (acted_with (Some c)) (stages_as (wired fixed new) q.endpoint.addr q.endpoint.num (device_of q.endpoint c) side_after)
+        ∙ none_acted c
 
     resting_after : IsRecord w.driver asks n (Rests q b c) (numbers n) (after_event fixed w v)
     resting_after = record {
@@ -206,7 +214,7 @@ module _ (fixed : Fixed) (base : Base) (member : ℕ → Bool) (courses : ℕ �
   side_by : (e : ℕ) (o : Option DriverEndpoint) → gone e ≡ true → slice_get w.driver.endpoints e ≡ o → acted_with (side_of fixed w o) (side_of fixed (controller_next fixed w) o) ≡ []
   side_by e None out here = refl
   side_by e (Some x) out here =
-      ap (λ (o : Option Device). acted_with (control_of (wired fixed w) x.desc.name.addr x.desc.name.num) o) (alone e x out here) ∙ acted_same (control_of (wired fixed w) x.desc.name.addr x.desc.name.num)
+      none_acts fixed w (controller_next fixed w) x (alone e x out here)
 
   left_after : (e : ℕ) → gone e ≡ true → AllByRecursion (IsOnceAt asks (after_event fixed w v)) (numbers_of w.driver e)
   left_after e out =

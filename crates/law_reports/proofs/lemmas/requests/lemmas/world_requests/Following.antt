@@ -16,7 +16,7 @@ use Rattle.drv_table.specs.DriverContent.{DriverContent}
 use Rattle.claims_report.specs.Requests.{Request}
 use Rattle.law_request.specs.Host.{Endpoint, Host, Stage, Setup, Data, Status, is_over}
 use Rattle.law_request.specs.Line.{Line, transacted}
-use Rattle.claims_report.specs.ControlSides.{Device}
+use Rattle.dev_control.specs.Stages.{Stages}
 use Rattle.law_devices.specs.request_calls.Bus.{device_of}
 use Rattle.law_ring.specs.Hand.{Hand, Copied, held_of}
 use Rattle.claims_base.specs.Controller.{Base}
@@ -35,13 +35,14 @@ use Rattle.law_devices.specs.scripted_requests.Controls.{transacts_by, begins_by
 use Rattle.law_devices.proofs.lemmas.scripted_requests.Asking.{a_scripted_bus_answers_by_stages}
 use Rattle.law_devices.proofs.lemmas.scripted_requests.Beginning.{keeps_devices}
 use Rattle.bus_world.specs.World.{World, controller_parts, controller_next}
-use Rattle.claims_world.specs.Requests.{wired, setup_at, endpoint_of, Windows, acted_between, opened_by, begun_by, side_of, acted_with, acted_by, after_event}
+use Rattle.claims_world.specs.Requests.{wired, setup_at, endpoint_of, Windows, acted_between, opened_by, begun_by, stages_at, side_of, acted_with, acted_by, after_event}
 use Rattle.law_reports.specs.requests.world_requests.Requesting.{IsRequesting, HearsBytesNow, WindowsGoOn, AreAsked}
 use Rattle.law_reports.specs.requests.world_requests.Recording.{IsNamed, IsNoSetup, AreTransfers, AreRecorded, IsRecorded, StaysRecorded}
 use Rattle.law_reports.proofs.lemmas.requests.lemmas.world_requests.Acting.{none_acted}
 use Rattle.law_reports.proofs.lemmas.requests.lemmas.world_requests.Begun.{begun_between, left_begins, same_begins, kind_begins}
 use Rattle.law_reports.proofs.lemmas.requests.lemmas.world_requests.Queues.{no_setup_opens, setup_opens, recorded_stays, recorded_advances, recorded_transaction}
 use Rattle.law_reports.proofs.lemmas.requests.lemmas.world_requests.Turning.{world_has_row}
+use Rattle.law_reports.proofs.lemmas.requests.Seats.{stages_as}
 
 works_only : (e : Endpoint) (r : Request) (x : Places) (part : Structures) (side : HostSide) (q : Qh) (h : Host) → side.active ≡ true → Shows e r x part side q h → Works e r x part side q h
 works_only e r x part side q h on (works w) = w
@@ -82,10 +83,14 @@ module _ (fixed : Fixed) (base : Base) (member windows : ℕ → Bool) (sent : �
       let before : control_of (wired fixed w) (sent n).endpoint.addr (sent n).endpoint.num ≡ Some (device_of (sent n).endpoint ((lines n).line (lines n).under).device) = (k.all.each n on).window.device in
       let after : control_of (wired fixed new) (sent n).endpoint.addr (sent n).endpoint.num ≡ Some (device_of (sent n).endpoint ((stepped sent g.step lines n).line (stepped sent g.step lines n).under).device) = (g.all.each n on).window.device in
       ap (λ o. acted_with (side_of fixed w o) (side_of fixed new o)) x.here
-      ∙ ap (λ (a : ℕ). acted_with (control_of (wired fixed w) a x.own.desc.name.num) (control_of (wired fixed new) a x.own.desc.name.num)) x.address
-      ∙ ap (λ (m : ℕ). acted_with (control_of (wired fixed w) (sent n).endpoint.addr m) (control_of (wired fixed new) (sent n).endpoint.addr m)) x.number
-      ∙ ap (λ (o : Option Device). acted_with o (control_of (wired fixed new) (sent n).endpoint.addr (sent n).endpoint.num)) before
-      ∙ ap (λ (o : Option Device). acted_with (Some (device_of (sent n).endpoint ((lines n).line (lines n).under).device)) o) after
+      ∙ ap (λ (a : ℕ). acted_with (stages_at (wired fixed w) a x.own.desc.name.num) (stages_at (wired fixed new) a x.own.desc.name.num)) x.address
+      ∙ ap (λ (m : ℕ). acted_with (stages_at (wired fixed w) (sent n).endpoint.addr m) (stages_at (wired fixed new) (sent n).endpoint.addr m)) x.number
+      ∙ ap (λ (o : Option Stages). acted_with o (stages_at (wired fixed new) (sent n).endpoint.addr (sent n).endpoint.num))
+      (stages_as (wired fixed w) (sent n).endpoint.addr (sent n).endpoint.num
+      (device_of (sent n).endpoint ((lines n).line (lines n).under).device) before)
+      ∙ ap (acted_with (Some ((lines n).line (lines n).under).device))
+      (stages_as (wired fixed new) (sent n).endpoint.addr (sent n).endpoint.num
+      (device_of (sent n).endpoint ((stepped sent g.step lines n).line (stepped sent g.step lines n).under).device) after)
 
   acted_so : (n : ℕ) → windows n ≡ true → (l : Lines) → stepped sent g.step lines n ≡ l → acted_by fixed w (controller_next fixed w) (endpoint n) ≡ acted_between ((lines n).line (lines n).under).device (l.line l.under).device
   acted_so n on l is = acted_is n on ∙ ap (λ (x : Lines). acted_between ((lines n).line (lines n).under).device (x.line x.under).device) is
