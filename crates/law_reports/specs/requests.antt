@@ -7,6 +7,7 @@ pub mod QueueSamples
 pub mod Records
 pub mod TransferEvents
 pub mod TransferChanges
+pub mod CourseMoves
 pub mod Apart
 pub mod Counts
 pub mod Lent

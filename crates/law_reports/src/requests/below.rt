@@ -2,6 +2,9 @@
 ghost use Rattle.law_reports.specs.requests.below.Controlled.{MovesAreRecorded, ControllerKeepsQueueBelow, ControllerKeepsRestBelow};
 ghost use Rattle.law_reports.specs.requests.below.Controlled.{ControllerKeepsLeftBelow};
 ghost use Rattle.law_reports.specs.requests.below.Hubs.{IsBehindHub, TextsKeepHubs, TextsSpareHubs};
+ghost use Rattle.law_reports.specs.requests.below.Moved.{MovesKeepCourseBelow};
+ghost use Rattle.law_reports.specs.requests.below.MovedSamples as moved;
+ghost use Rattle.law_reports.specs.requests.below.Recorded.{AskedIsRecordedBelow, RestIsRecordedBelow, LeftIsRecordedBelow};
 ghost use Rattle.law_reports.specs.requests.below.Samples.{zero, StartsSpared};
 ghost use Rattle.law_reports.specs.pipes.hub_setups.Samples.{asked};
 ghost use Rattle.claims_world.specs.BelowStreams.{LeavesTranslator};
@@ -17,9 +20,33 @@ pub fn the_controller_keeps_control_endpoints_below()
     ensures left { ControllerKeepsLeftBelow }
 {}
 
+/// Whichever way its queue moves at an event of the driver or a command, host, hub and device stand as they must again: a request that is
+/// published opens its window or waits, one that is done was acted on once, and a queue head that is halted leaves the hub at rest, but
+/// where errors ended the endpoint.
+pub fn a_queue_below_moves()
+    ensures { MovesKeepCourseBelow }
+{}
+
+/// So it is where the first request of an endpoint is published; not where its device had acted on it before.
+pub fn a_first_request_below_is_published()
+    ensures before { moved.Before }
+    ensures moves { moved.Moves }
+    ensures so { moved.MovedSo }
+    ensures after { moved.After }
+    ensures acted { moved.ActedBreaks }
+{}
+
 /// What its device acts on in an event is what a run records of its stages before and after it.
 pub fn what_a_device_acts_on_is_recorded()
     ensures { MovesAreRecorded }
+{}
+
+/// So it is recorded in the window of the request under way, or of the one that errors ended; those before it were acted on once, and
+/// those behind it weren't.
+pub fn what_is_acted_on_below_is_of_its_window()
+    ensures asked { AskedIsRecordedBelow }
+    ensures rest { RestIsRecordedBelow }
+    ensures left { LeftIsRecordedBelow }
 {}
 
 /// At each moment of each script that a text spells its hub is the one that its queue head names; and where no line of the script asks that
