@@ -15,11 +15,19 @@ CALL = CRATES / "ehci_cli/src/program.rt"
 
 # What each clause says, in the order in which one reads them.
 SAYS = {
+    "headline": "The theorem in one sentence, part by part; the clauses below say each part in full, and of more endpoints and moments. `PrintsStreams`: the bytes that the printed report tells of an endpoint begin its stream, until a line "
+                "tells its end: of each bulk and interrupt endpoint at high speed, of each OUT endpoint of either kind behind a port of a hub of the script, and of each bulk IN endpoint there, where no `control` line to that hub clears a "
+                "buffer (CLEAR_TT_BUFFER) or resets a translator (RESET_TT). `ActsOnRequests`: the requests of each control endpoint at high speed of a device that is no hub are right, unless it was cancelled. `AdmitsAtWork`: the open of a "
+                "periodic endpoint that passes the checks before is refused for want of a placement exactly where each that it may have breaks a budget. `DoesWhatIsDue`: of each periodic endpoint of which no cancel was accepted, in a "
+                "microframe that isn't held, where no more than 4 microseconds went for complete-splits made again, what is due as the microframe begins is done in it. At high speed the packet of an interrupt endpoint moves, where its "
+                "device is ready and none of its packets is lost, and the slot of an iTD is written back; behind hubs the split transactions of interrupt and isochronous endpoints are made, and what the device of an interrupt endpoint "
+                "says to its translator is heard in the frame, and taken, where nothing of it is lost. `TouchesNoneReleased`: the controller touches no word after its release.",
     "output": "Where the bytes of the input are known, what is written is what the form defines of them: for `run` and `image` the report or the memory after the whole run "
               "of the script that they spell, for `check` and `dump` its text, else the first fault. The run is that of the table machine (driver, controller, hubs, devices), "
               "event by event, with the driver's job where a script clears halts. Where it clears none every line was carried out, and there is no job at the end; else the "
               "run may have stopped in a microframe that hadn't ended after 67,108,864 turns.",
     "first": "A script of version 1 clears no halt: its grammar has no line for it.",
+    "drawn": "The script that is drawn for `load` is one of these, so each clause of `OfEachPlainScript` speaks of its run.",
     "plain": "At each moment of the run of a script that clears no halt, which is each of version 1 (`first`) and of version 2 each without a `clear` line, the driver is at no job, no endpoint was reset, and the world is that of the table machine "
              "whose driver knows no jobs: so what the clauses below say of its moments is said of what is run.",
     "microframes": "Each microframe that a script lets pass ends after at most 17,957,823 events of the controller, each followed by one of the driver; so each line of the script is carried "
@@ -128,6 +136,8 @@ SAYS = {
     "write": "The status is `WriteFault` exactly where a write failed.",
     "finishes": "Where the words have a form, the input is one that it reads, and neither count of faults rose: the status is `Ok` and the whole output is written, or it is `Memory` and nothing is. `load` reads nothing, and the script that it draws is always sound.",
 }
+# The clauses that join others: of these the page lists what no other clause reaches.
+JOINS = {"headline"}
 INTRODUCTION = """# The theorem
 
 Written by docs/theorem.py; the checks of `.ci/run` compare it with the sources.
@@ -136,7 +146,7 @@ The theorem of this repository is the contract of one function, `ehci` in crates
 
 Most clauses speak of **the table machine** over the script that the input spells, and for `load` over the one that is drawn from its number: contents of driver, controller, registers, memory, hubs and devices, and the row that each event is. Clause `output` ties it to what is printed: the report is that of the machine's run. Clauses of `OfEachPlainScript` speak of scripts that clear no halt, by the run of a driver without jobs; clause `plain` says that this is their run. Each clause below is given in its own words, then in English, then come the definitions beside the machine that it reaches, which one has to read to know what it says. "At each moment" is: before the run, and after each of its events and commands.
 
-The calls below keep the tables as their contracts: `World::offer`, `World::event` and `World::run` of bus_world say which row each command and event is, and nothing of what then holds along a run. What holds there are clauses of `ehci` alone, so that no part of the machine, and no program over it, has to wait for the proofs of laws. A program of one's own over `World` gets them by the same laws: each takes a script, and speaks of the moments of its run.
+The calls below keep the tables as their contracts: `World::offer`, `World::event` and `World::run` of bus_world say which row each command and event is, and of what holds along a run the budgets. The laws of a run are clauses of `ehci` alone: what stands above them waits for the proofs of all, and no part of the machine has to. A program of one's own over `World` gets them by the same laws: each takes a script, and speaks of the moments of its run.
 
 Where a clause's English says less than its name, the definitions count. [NOT_PROVED.md](NOT_PROVED.md) has what no clause says. **Lent, Kept, Free**: a block of memory that the controller may touch too, that the driver has alone, that nobody has. A **run** of blocks is some blocks in a row.
 """
@@ -174,6 +184,15 @@ def told(definitions):
         yield f"- `{path.relative_to(CRATES)}`: " + ", ".join(f"{it.name}:{it.line}" for it in sorted(by_file[path], key=lambda it: it.line))
 
 
+def reached_by(known, roots):
+    return reached(known, [known[m].definitions[n] for m, n in roots if m in known and n in known[m].definitions])
+
+
+def others(known, found, name):
+    """What the other clauses reach."""
+    return {id(it) for other, (_, roots) in found.items() if other != name for it in reached_by(known, roots)}
+
+
 def page(known):
     out, everything = [INTRODUCTION], {}
     found = {name: (text, roots) for name, text, roots in clauses()}
@@ -188,7 +207,12 @@ def page(known):
         out.append(f"## `{name}`\n\n    {text}\n\n{says}\n")
         first = [it for it in roots if it.words() and "OfEach" not in it.name]
         out += [f"`{it.name}` ({it.place}): {it.words()}\n" for it in first]
-        if mine:
+        if name in JOINS:
+            elsewhere = others(known, found, name)
+            mine = [it for it in mine if id(it) not in elsewhere]
+            out.append(f"It joins clauses below, and has {len(mine)} definitions of its own, {lines(mine)} lines:\n")
+            out += [*told(mine), ""]
+        elif mine:
             out.append(f"{len(mine)} definitions beside the machine, {lines(mine)} lines:\n")
             out += [*told(mine), ""]
     return "\n".join([*out, *machine(known, list(everything.values()))])

@@ -7,3 +7,5 @@ pub mod Requests
 pub mod Visits
 pub mod Whole
 pub mod Causes
+pub mod Drawn
+pub mod Headline

@@ -1,5 +1,6 @@
 ghost use Rattle.std.specs.Prelude.{◌≡◌, ℕ, ◌≤◌, ◌↔◌, map, string_bytes, IfSome};
 ghost use Rattle.bus_world.specs.BudgetsAtWork.{AdmitsAtWork};
+ghost use Rattle.claims_headline.specs.Headline.{KeepsHeadline};
 ghost use Rattle.claims_world.specs.Schedule.{KeepsScheduleThroughout};
 ghost use Rattle.claims_world.specs.Lent.{KeepsToLentThroughout};
 ghost use Rattle.claims_world.specs.Owned.{OwnsItsBlocksThroughout};
@@ -7,6 +8,7 @@ ghost use Rattle.app_ends.specs.Ends.{IsFault, IsWriteFault, WritesNothing};
 ghost use Rattle.app_ends.specs.Input.{input_of};
 ghost use Rattle.app_forms.specs.Finished.{Finishes};
 ghost use Rattle.app_forms.specs.Form.{AreWordsOf, AreNoForm};
+ghost use Rattle.bus_world.specs.Plain.{IsPlain};
 ghost use Rattle.bus_world.specs.PlainEnds.{IsRunCarriedOut, RunsPlain};
 ghost use Rattle.app_forms.specs.Output.{IsLoad, IsProgram, Leaves};
 ghost use Rattle.claims_world.specs.Memory.{KeepsMemory};
@@ -72,7 +74,12 @@ use usb_base::{Sink, Source};
 /// one that is drawn from the number; `output` and `load` say that what is printed is the report of its run, or what that counts. All of
 /// these clauses but `budgets` speak of scripts that clear no halt: at each moment of the run of such a script the driver is at no job,
 /// no endpoint was reset, and the machine is that of a driver without jobs. Of a script with clears the run is that of the driver with its
-/// job, as far as each microframe ended within 67,108,864 turns. docs/THEOREM.md has each clause with its definitions.
+/// job, as far as each microframe ended within 67,108,864 turns. The script that is drawn for `load` clears none. docs/THEOREM.md has each
+/// clause with its definitions.
+///
+/// `headline` joins in one sentence what the clauses after it say: the bytes told of each endpoint begin its stream, and its requests are
+/// right; a periodic endpoint is admitted exactly where a placement keeps every budget; what is due is done; and the controller touches no
+/// word after its release. Its definition names the endpoints of each part.
 ///
 /// Each microframe of a script's run ends, after at most 17,957,823 events of the controller, each followed by one of the driver; so
 /// every line is carried out, and what is reported stands after the whole run.
@@ -187,6 +194,8 @@ pub fn ehci<S: Source, K: Sink>(
     ensures output { IfSome (S.left source.old) (λ xs. IsProgram IsRunCarriedOut (map string_bytes words.now) result (input_of xs) (K.written sink.old) (K.written sink.new)) }
     ensures plain { OfEachScript RunsPlain (map string_bytes words.now) (S.left source.old) }
     ensures first { OfEachScript FirstIsPlain (map string_bytes words.now) (S.left source.old) }
+    ensures drawn { (n : ℕ) → AreWordsOf (map string_bytes words.now) (Form.Load n) → (s : Script) → Spells (load_text n) s → IsPlain s }
+    ensures headline { OfEachPlainScript KeepsHeadline (map string_bytes words.now) (S.left source.old) }
     ensures budgets { OfEachScript AdmitsAtWork (map string_bytes words.now) (S.left source.old) }
     ensures lent { OfEachPlainScript KeepsToLentThroughout (map string_bytes words.now) (S.left source.old) }
     ensures owned { OfEachPlainScript OwnsItsBlocksThroughout (map string_bytes words.now) (S.left source.old) }

@@ -2,6 +2,8 @@ use Rattle.ehci_cli.proofs.Admitted.{source_admits, source_keeps_to_lent, source
 use Rattle.ehci_cli.proofs.Causes.{source_has_causes, source_is_heard, source_rests_when_done, source_tells_for_reasons, source_counts_pending}
 use Rattle.ehci_cli.proofs.Memory.{source_keeps_memory, source_reaches_lent, source_keeps_to_owners, source_gives_back_last, source_leaves_what_is_back}
 use Rattle.ehci_cli.proofs.Memory.{source_keeps_links}
+use Rattle.ehci_cli.proofs.Drawn.{load_is_plain}
+use Rattle.ehci_cli.proofs.Headline.{source_keeps_headline}
 use Rattle.ehci_cli.proofs.Places.{load_has_places}
 use Rattle.ehci_cli.proofs.Requests.{source_keeps_requests}
 use Rattle.ehci_cli.proofs.Streams.{source_ends_once, source_misses_below, source_keeps_errors, source_keeps_streams}
@@ -21,6 +23,12 @@ returns-clause-plain g c = source_runs_plain _ _
 
 pub returns-clause-first : goal.returns-clause-first
 returns-clause-first g c = source_first_is_plain _ _
+
+pub returns-clause-drawn : goal.returns-clause-drawn
+returns-clause-drawn g c = load_is_plain _
+
+pub returns-clause-headline : goal.returns-clause-headline
+returns-clause-headline g c = source_keeps_headline _ _
 
 pub returns-clause-budgets : goal.returns-clause-budgets
 returns-clause-budgets g c = source_admits _ _

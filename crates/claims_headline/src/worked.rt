@@ -1,0 +1,25 @@
+//! Worked rows of the headline, which the check computes, for a device with one endpoint.
+ghost use Rattle.std.specs.Prelude.{[], ◌∷◌, Some};
+ghost use Rattle.script_types.specs.declared.devices.Item.TheVariants.{Bytes};
+ghost use Rattle.usb_base.specs.declared.packets.EpKind.TheVariants.{Interrupt};
+ghost use Rattle.usb_base.specs.declared.packets.Speed.TheVariants.{Low};
+ghost use Rattle.claims_report.specs.Samples.{script_of, line_of, report_of, sender, bulk};
+ghost use Rattle.claims_headline.specs.Headline.{IsOfStreams, TellsStreams};
+
+use usb_base::What;
+
+/// The first of two packets is told: its bytes begin the stream. Bytes told twice don't, nor does a packet that was passed over.
+pub fn what_is_told_begins_the_stream()
+    ensures begun { TellsStreams (script_of (bulk sender) (Bytes (1 ∷ 2 ∷ []) ∷ Bytes (3 ∷ []) ∷ []) [])
+        (report_of (line_of sender What.Done 0 2 ∷ []) (1 ∷ 2 ∷ []) []) }
+    ensures not_twice { TellsStreams (script_of (bulk sender) (Bytes (1 ∷ 2 ∷ []) ∷ Bytes (3 ∷ []) ∷ []) [])
+        (report_of (line_of sender What.Done 0 4 ∷ []) (1 ∷ 2 ∷ 2 ∷ 3 ∷ []) []) → ⊥ }
+    ensures not_passed { TellsStreams (script_of (bulk sender) (Bytes (1 ∷ 2 ∷ []) ∷ Bytes (3 ∷ []) ∷ []) [])
+        (report_of (line_of sender What.Done 0 1 ∷ []) (3 ∷ []) []) → ⊥ }
+{}
+
+/// Of a keyboard at low speed behind a hub nothing is said.
+pub fn a_keyboard_behind_a_hub_is_none()
+    ensures { IsOfStreams (script_of (bulk sender) [] [])
+        (record (bulk sender) { kind = Interrupt; speed = Low; hub = Some 9; port = 1 }) → ⊥ }
+{}
