@@ -1,6 +1,9 @@
 pub mod Controlled
 pub mod Hubs
 pub mod Moved
+pub mod Opened
 pub mod MovedSamples
 pub mod Recorded
+pub mod Going
+pub mod GoingSamples
 pub mod Samples

@@ -1,9 +1,12 @@
 //! Control endpoints below hubs, in a world with endpoints of every kind (EHCI 1.0, 4.4 to 4.12; USB 2.0, 8.5.3, 11.17 and 11.18).
 ghost use Rattle.law_reports.specs.requests.below.Controlled.{MovesAreRecorded, ControllerKeepsQueueBelow, ControllerKeepsRestBelow};
-ghost use Rattle.law_reports.specs.requests.below.Controlled.{ControllerKeepsLeftBelow};
+ghost use Rattle.law_reports.specs.requests.below.Controlled.{ControllerKeepsLeftBelow, UnsentActsNothing};
+ghost use Rattle.law_reports.specs.requests.below.Going.{ControllerKeepsCourseBelow};
+ghost use Rattle.law_reports.specs.requests.below.GoingSamples as shown;
 ghost use Rattle.law_reports.specs.requests.below.Hubs.{IsBehindHub, TextsKeepHubs, TextsSpareHubs};
 ghost use Rattle.law_reports.specs.requests.below.Moved.{MovesKeepCourseBelow};
 ghost use Rattle.law_reports.specs.requests.below.MovedSamples as moved;
+ghost use Rattle.law_reports.specs.requests.below.Opened.{OwnTransactionOpens};
 ghost use Rattle.law_reports.specs.requests.below.Recorded.{AskedIsRecordedBelow, RestIsRecordedBelow, LeftIsRecordedBelow};
 ghost use Rattle.law_reports.specs.requests.below.Samples.{zero, StartsSpared};
 ghost use Rattle.law_reports.specs.pipes.hub_setups.Samples.{asked};
@@ -18,6 +21,16 @@ pub fn the_controller_keeps_control_endpoints_below()
     ensures queue { ControllerKeepsQueueBelow }
     ensures rest { ControllerKeepsRestBelow }
     ensures left { ControllerKeepsLeftBelow }
+{}
+
+/// The SETUP of its request under way opens the window of that one, and each later transaction finds it open.
+pub fn own_transactions_open_their_window()
+    ensures { OwnTransactionOpens }
+{}
+
+/// Before a SETUP is sent its device acts on nothing.
+pub fn nothing_is_acted_on_before_a_setup_below()
+    ensures { UnsentActsNothing }
 {}
 
 /// Whichever way its queue moves at an event of the driver or a command, host, hub and device stand as they must again: a request that is
@@ -47,6 +60,21 @@ pub fn what_is_acted_on_below_is_of_its_window()
     ensures asked { AskedIsRecordedBelow }
     ensures rest { RestIsRecordedBelow }
     ensures left { LeftIsRecordedBelow }
+{}
+
+/// So whichever way its queue stands each event of the controller leaves it as it must stand, in memory, in its hub, and in what a run
+/// records.
+pub fn the_controller_keeps_a_queue_below()
+    ensures { ControllerKeepsCourseBelow }
+{}
+
+/// Memory shows so a queue at rest below a hub, whose device acts on nothing in the microframe that begins; not with a queue head that
+/// works.
+pub fn a_queue_below_is_shown()
+    ensures shown { shown.Shown }
+    ensures head { shown.Head }
+    ensures unsent { shown.Unsent }
+    ensures working { shown.WorkingBreaks }
 {}
 
 /// At each moment of each script that a text spells its hub is the one that its queue head names; and where no line of the script asks that

@@ -49,7 +49,7 @@ module _ (hand later : Hand) (parts now : StructureSets) (n : ℕ) (same : now n
             ∙ ap (λ (part : Structures). hand_bytes later n t.queue e t.qtd (buffer_of part t.qtd)) (sym same);
       }
 
-  behind_still : (v : Queue) (i : ℕ) → IsBehind (sent_at v i) hand parts n → IsBehind (sent_at v i) later now n
+  pub behind_still : (v : Queue) (i : ℕ) → IsBehind (sent_at v i) hand parts n → IsBehind (sent_at v i) later now n
   behind_still v i k = record {
     fresh = subst (λ (part : Structures). AreFresh v.endpoint (v.requests i) (v.places i) part Setup) (sym same) k.fresh;
     none_told = λ some. told_still (v.places i).data_at [] (k.none_told some);

@@ -32,8 +32,9 @@ of_place : (w : Wired) (addr num : ℕ) (o : Option ℕ) (c : Device) → contro
     → stages_of_place w addr num o ≡ Some c.stages
 of_place w addr num None c is = cc
 of_place w addr num (Some place) c is =
-    of_same_seat (is_at place (place_for w.fixed.seats addr num Tokens.In) && is_at place (place_for w.fixed.seats addr num Tokens.Out)) w.bus
-    addr num (slice_get w.fixed.seats place) c is
+    of_same_seat
+    (is_at place (place_for w.fixed.seats addr num Tokens.In) && is_at place (place_for w.fixed.seats addr num Tokens.Out))
+    w.bus addr num (slice_get w.fixed.seats place) c is
 
 pub stages_as : (w : Wired) (addr num : ℕ) (c : Device) → control_of w addr num ≡ Some c → stages_at w addr num ≡ Some c.stages
 stages_as w addr num c is = of_place w addr num (place_for w.fixed.seats addr num Tokens.Setup) c is

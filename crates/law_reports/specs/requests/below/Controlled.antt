@@ -5,8 +5,11 @@
 --     IsSparedHub i wire       the hub at this place hasn't heard last to clear a buffer or reset a translator
 --     MovesAreRecorded         what the device acts on in an event is what a run records of its stages before and after it
 --     ControllerKeepsQueueBelow, ControllerKeepsRestBelow, ControllerKeepsLeftBelow
---                              each event leaves it as it must stand: while its requests are asked, between two, and after errors
-use Rattle.std.specs.Prelude.{◌≡◌, ◌≤◌, ℕ, true, false, List, slice_get, Some}
+--                              each event leaves it as it must stand: while its requests are asked, between two, and after errors; in
+--                              the latter two it leaves its structures
+--     UnsentActsNothing        while nothing is asked of its hub, and the queue head in hand, if it works, is another one, its device acts
+--                              on nothing; so it is before a SETUP is sent
+use Rattle.std.specs.Prelude.{◌≡◌, ◌≤◌, ℕ, true, false, List, [], slice_get, Some}
 use Rattle.dev_control.specs.Stages.{Stages}
 use Rattle.hub_class.specs.HubContent.{HubContent}
 use Rattle.bus_wire.specs.Bus.{Fixed, Wired}
@@ -20,8 +23,11 @@ use Rattle.claims_world.specs.Requests.{wired, acted_between}
 use Rattle.law_request.specs.Host.{Endpoint}
 use Rattle.law_request.specs.Line.{Line as Window}
 use Rattle.law_request.specs.Windows.{IsRequest}
+use Rattle.law_controller.specs.frame_control.Joined.{joined}
 use Rattle.law_devices.specs.ring_requests.Resting.{IsAlone}
 use Rattle.law_devices.specs.ring_requests.Windows.{Queue, Lines}
+use Rattle.law_below_hubs.specs.HostRequests.{HubRests}
+use Rattle.law_below_hubs.specs.RequestEvents.{InHandIsOther}
 use Rattle.law_below_hubs.specs.RequestMoves.{DeviceMoves, QueueMoves, IsRestBelow, IsLeftBelow, LeftMoves}
 use Rattle.law_below_hubs.specs.RequestQueues.{AreOneByOne, IsQueueBelow}
 use Rattle.law_world.specs.memory.Mixed.{Standing}
@@ -58,7 +64,7 @@ ControllerKeepsRestBelow = (fixed : Fixed) (x : Sides) (s : Standing) (m : Told)
     → (c : IsMixedControlled fixed s w) → (e : Endpoint) (i place b n : ℕ) (stages : Stages) → IsAloneIn s w.driver e n
     → IsSparedHub i (wired fixed w) → IsRestBelow e i place (wired fixed w) stages b s.hand s.parts n
     → IsRestBelow e i place (wired fixed (controller_next fixed w)) stages b (standing_then s w c.event).hand
-    (standing_then s w c.event).parts n
+    (standing_then s w c.event).parts n × ((standing_then s w c.event).parts n ≡ s.parts n)
 
 -- the device may act then, too
 abbrev pub ControllerKeepsLeftBelow : Type 0
@@ -67,4 +73,11 @@ ControllerKeepsLeftBelow = (fixed : Fixed) (x : Sides) (s : Standing) (m : Told)
     → e.max ≤ 1024 → IsAloneIn s w.driver e n → IsSparedHub i (wired fixed w)
     → IsLeftBelow e r i place (wired fixed w) l acts b s.hand s.parts n
     → LeftMoves e r i place (wired fixed w) (wired fixed (controller_next fixed w)) l acts b (standing_then s w c.event).hand
-    (standing_then s w c.event).parts n
+    (standing_then s w c.event).parts n × ((standing_then s w c.event).parts n ≡ s.parts n)
+
+abbrev pub UnsentActsNothing : Type 0
+UnsentActsNothing = (fixed : Fixed) (x : Sides) (s : Standing) (m : Told) (h : Heads) (w : World) → IsPiped fixed x s m h w
+    → (c : IsMixedControlled fixed s w) → (e : Endpoint) (i place n : ℕ) (stages : Stages) → IsAloneIn s w.driver e n
+    → IsSparedHub i (wired fixed w) → InHandIsOther e s.parts (joined s.hand s.frame) → HubRests e i place (wired fixed w) stages
+    → HubRests e i place (wired fixed (controller_next fixed w)) stages
+    × ((acted : List (List ℕ)) → DeviceMoves e (wired fixed w) (wired fixed (controller_next fixed w)) acted → acted ≡ [])

@@ -1,5 +1,5 @@
--- The queue of a control endpoint below a hub, at the events of the driver and the commands, which leave hubs and devices (EHCI 1.0, 4.8 and
--- 4.10; USB 2.0, 8.5.3 and 11.17).
+-- The queue of a control endpoint below a hub, at the events of the driver and the commands, which leave hubs and devices (EHCI 1.0, 4.8
+-- and 4.10; USB 2.0, 8.5.3 and 11.17).
 --     IsAskedBelow ..      while its requests are asked: in the window of the one under way host, hub and device stand as they must, those
 --                          before it were acted on once, and those behind it weren't
 --     HubIsLeft ..         none is under way: nothing is asked of the hub; or the endpoint ended by errors, and its device may act yet
@@ -15,6 +15,7 @@ use Rattle.claims_report.specs.Requests.{Request}
 use Rattle.claims_world.specs.Requests.{Windows}
 use Rattle.law_request.specs.Host.{Endpoint, Halted}
 use Rattle.law_request.specs.Line.{Line as Window}
+use Rattle.law_request.specs.Windows.{IsRequest}
 use Rattle.law_devices.specs.ring_requests.Windows.{Queue, Lines}
 use Rattle.law_below_hubs.specs.HostRequests.{RequestBelow, HubRests}
 use Rattle.law_reports.specs.requests.world_requests.Recording.{IsOpened}
@@ -32,8 +33,8 @@ pub record IsAskedBelow (i place : ℕ) (wire : Wired) (v : Windows) (q : Queue)
 -- the window of transfer t, which errors ended, is still open
 pub data HubIsLeft (ended : Bool) (e : Endpoint) (i place : ℕ) (wire : Wired) (v : Windows) (number : ℕ) : Type 0 where
   by_none : (s : Stages) → HubRests e i place wire s → HubIsLeft ended e i place wire v number
-  by_errors : (t : ℕ) (r : Request) (l : Window) → ended ≡ true → v.opened number ≡ Some t → l.host.stage ≡ Halted Causes.Error
-      → RequestBelow e r i place wire l (v.acts t) → HubIsLeft ended e i place wire v number
+  by_errors : (t : ℕ) (r : Request) (l : Window) → ended ≡ true → IsRequest r → v.opened number ≡ Some t
+      → l.host.stage ≡ Halted Causes.Error → RequestBelow e r i place wire l (v.acts t) → HubIsLeft ended e i place wire v number
 
 pub record IsRestedBelow (ended : Bool) (i place : ℕ) (wire : Wired) (v : Windows) (q : Queue) (s : Stages) (a : Numbers) : Type 0 where
   pub max : s.max ≡ q.endpoint.max
@@ -53,6 +54,7 @@ pub record IsMovedSo (was ended : Bool) (i place : ℕ) (wire : Wired) (v : Wind
   pub ahead : (queue_in d).count ≤ b.requests.count
   pub within : (queue_in c).count ≤ a.requests.count
   pub new : a.requests.count < b.requests.count → v.acts (b.number a.requests.count) ≡ []
+  pub request : (q : Queue) (m : ℕ) (l : Lines) → c ≡ Asks q m l → IsRequest (q.requests l.under)
   pub opens : (q : Queue) (m : ℕ) (s : Stages) → c ≡ NoQueue → d ≡ Rests q m s → IsRestedBelow ended i place wire v q s b
 
 abbrev pub MovesKeepCourseBelow : Type 0

@@ -15,6 +15,7 @@ use Rattle.law_structures.specs.lent_structures.Structures.{StructureSets}
 use Rattle.law_ring.specs.Hand.{Hand}
 use Rattle.law_request.specs.Host.{Endpoint}
 use Rattle.law_request.specs.Line.{Line as Window}
+use Rattle.law_request.specs.Windows.{IsRequest}
 use Rattle.law_devices.specs.ring_requests.Windows.{Queue, Lines}
 use Rattle.law_below_hubs.specs.HostRequests.{HubRests}
 use Rattle.law_below_hubs.specs.RequestMoves.{QueueMoves, LeftMoves}
@@ -46,7 +47,7 @@ RestIsRecordedBelow = (fixed : Fixed) (w : World) (ended : Bool) (i place : ℕ)
 -- none of its requests waits then
 abbrev pub LeftIsRecordedBelow : Type 0
 LeftIsRecordedBelow = (fixed : Fixed) (w : World) (ended : Bool) (i place b n t : ℕ) (v : Windows) (q : Queue) (s : Stages) (r : Request)
-    (l : Window) (a : Numbers) (hand : Hand) (parts : StructureSets) → AreTransfersOf w.driver q.endpoint a → ended ≡ true
+    (l : Window) (a : Numbers) (hand : Hand) (parts : StructureSets) → IsRequest r → AreTransfersOf w.driver q.endpoint a → ended ≡ true
     → a.requests.count ≡ 0 → endpoint_of w.driver t ≡ Some a.endpoint → (after_event fixed w v).opened a.endpoint ≡ Some t
     → LeftMoves q.endpoint r i place (wired fixed w) (wired fixed (controller_next fixed w)) l (v.acts t) b hand parts n
     → IsRestedBelow ended i place (wired fixed w) v q s a

@@ -1,6 +1,9 @@
 pub mod Controlled
 pub mod Hubs
 pub mod Moved
+pub mod Opened
 pub mod MovedSampled
 pub mod Recorded
+pub mod Going
+pub mod GoingSampled
 pub mod Sampled

@@ -1,6 +1,8 @@
 -- Each event of the controller leaves a control endpoint below a hub as it must stand, in a world with endpoints of every kind.
-use Rattle.std.proofs.Common.{◌≡◌, ◌≢◌, ◌≤◌, ℕ, Bool, true, false, List, [], if◌then◌else◌, None, ap, refl, sym, subst, ◌∙◌}
+use Rattle.std.proofs.Common.{◌≡◌, ◌≢◌, ◌≤◌, ℕ, Bool, true, false, List, [], if◌then◌else◌, Option, Some, None, ap, refl, sym, subst}
+use Rattle.std.proofs.Common.{◌∙◌}
 use Rattle.std.proofs.lemmas.Bool.{true≢false}
+use Rattle.std.proofs.lemmas.Option.{same_Some}
 use Rattle.usb_base.specs.declared.endpoints.EpDesc.{EpDesc}
 use Rattle.usb_base.specs.declared.packets.Ask.{Ask}
 use Rattle.usb_base.specs.declared.packets.EpKind.TheVariants as kinds
@@ -41,6 +43,9 @@ use Rattle.law_request.specs.Windows.{IsRequest}
 use Rattle.law_devices.specs.ring_requests.Resting.{IsOtherEndpoint, IsAlone}
 use Rattle.law_devices.specs.ring_requests.Windows.{Queue, Lines}
 use Rattle.law_devices.specs.scripted_requests.Controls.{transacts_by, begins_by}
+use Rattle.law_devices.specs.request_calls.Bus.{device_of}
+use Rattle.claims_report.specs.ControlSides.{Device}
+use Rattle.law_below_hubs.specs.SeatedControls.{control_at}
 use Rattle.law_below_hubs.specs.ControlWork.{control_key}
 use Rattle.law_below_hubs.specs.HostRequests.{IsOfOtherEndpoint, DeviceWorks, RequestBelow, RequestBegins, HubRests}
 use Rattle.law_below_hubs.specs.HostRequests.DeviceWorks.{rests, makes}
@@ -58,7 +63,7 @@ use Rattle.law_reports.specs.lines.Lined.{Lines as Told}
 use Rattle.law_reports.specs.pipes.Declared.{Sides}
 use Rattle.law_reports.specs.pipes.Piped.{Heads, IsPiped}
 use Rattle.law_reports.specs.requests.below.Controlled.{IsAloneIn, IsSparedHub, MovesAreRecorded, ControllerKeepsQueueBelow}
-use Rattle.law_reports.specs.requests.below.Controlled.{ControllerKeepsRestBelow, ControllerKeepsLeftBelow}
+use Rattle.law_reports.specs.requests.below.Controlled.{ControllerKeepsRestBelow, ControllerKeepsLeftBelow, UnsentActsNothing}
 use Rattle.law_reports.proofs.lemmas.pipes.IsoBeside.{IsNamedIso, itd_named, sitd_named}
 use Rattle.law_reports.proofs.lemmas.pipes.lemmas.below_hubs.HubStays.{event_keeps_hub}
 use Rattle.law_reports.proofs.lemmas.pipes.lemmas.below_hubs.SparedHubs.{spared_hubs_keep_keys}
@@ -176,6 +181,13 @@ module _ (fixed : Fixed) (x : Sides) (s : Standing) (m : Told) (h : Heads) (w : 
       let o : IsNamedIso w.driver v.addr v.ep v.dir_in = sitd_named x s w k.mixed k.declared k.descriptors j v here in
       alone.no_iso o.number o.endpoint o.here o.iso (sym addr ∙ a.address ∙ o.named.address) (sym num ∙ a.number ∙ o.named.number)
 
+  -- while nothing is asked of the hub
+  unsent_rests : InHandIsOther e s.parts (joined s.hand s.frame) → (stages : Stages) → HubRests e i place (wired fixed w) stages
+      → HubRests e i place (wired fixed (controller_next fixed w)) stages
+  unsent_rests other stages rests_so =
+      event_leaves_rest e i place s.descs s.parts (joined s.hand s.frame) wire after now (joined later c.event.frame_later) stages other
+      iso_other spares z rests_so
+
   module _ (f : WalksFrames transacts_by (both s.descs s.parts) w.control s.hand s.frame (wired fixed w)
       (wired fixed (controller_next fixed w)) c.event.now c.event.later c.event.frame_later) where
     owned_stays : (b : Bool) → owns s.descs n ≡ b → (if b then s.parts n else c.event.now n) ≡ s.parts n
@@ -219,9 +231,7 @@ module _ (fixed : Fixed) (x : Sides) (s : Standing) (m : Told) (h : Heads) (w : 
 
     frame_rests : (stages : Stages) → HubRests e i place (wired fixed w) stages
         → HubRests e i place (wired fixed (controller_next fixed w)) stages
-    frame_rests stages rests_so =
-        event_leaves_rest e i place s.descs s.parts (joined s.hand s.frame) wire after now (joined later c.event.frame_later) stages
-        other_hand iso_other spares z rests_so
+    frame_rests stages rests_so = unsent_rests other_hand stages rests_so
 
   -- ---- between two requests, and after errors
 
@@ -229,25 +239,46 @@ module _ (fixed : Fixed) (x : Sides) (s : Standing) (m : Told) (h : Heads) (w : 
       (wired fixed (controller_next fixed w)) c.event.now c.event.later c.event.frame_later → (b : ℕ) (stages : Stages)
       → IsRestBelow e i place (wired fixed w) stages b s.hand s.parts n
       → IsRestBelow e i place (wired fixed (controller_next fixed w)) stages b (standing_then s w c.event).hand
-      (standing_then s w c.event).parts n
+      (standing_then s w c.event).parts n × ((standing_then s w c.event).parts n ≡ s.parts n)
   rest_by (of_ring effect nothing) b stages o =
-      (ring_keeps_rest s.member e i place b n s.parts s.hand (walk_place (controller_parts w)).walk.reply wire after now later stages
-      ring.members ring.in_hand ring_alone spares hubs (of_queues effect) o).0
-  rest_by (of_frame f) b stages o =
-      beside_keeps_rest e i place b n s.parts s.hand wire after now later stages (part_stays f) f.hand_stays hubs
-      (frame_rests f stages o.rests) o
+      ring_keeps_rest s.member e i place b n s.parts s.hand (walk_place (controller_parts w)).walk.reply wire after now later stages
+      ring.members ring.in_hand ring_alone spares hubs (of_queues effect) o
+  rest_by (of_frame f) b stages o = (
+    beside_keeps_rest e i place b n s.parts s.hand wire after now later stages (part_stays f) f.hand_stays hubs
+        (frame_rests f stages o.rests) o,
+    part_stays f,
+  )
 
   left_by : BothEffect begins_by transacts_by (both s.descs s.parts) w.control s.hand s.frame (wired fixed w)
       (wired fixed (controller_next fixed w)) c.event.now c.event.later c.event.frame_later → (r : Request) (b : ℕ) (l : Window)
       (acts : List (List ℕ)) → IsRequest r → e.max ≤ 1024 → IsLeftBelow e r i place (wired fixed w) l acts b s.hand s.parts n
       → LeftMoves e r i place (wired fixed w) (wired fixed (controller_next fixed w)) l acts b (standing_then s w c.event).hand
-      (standing_then s w c.event).parts n
+      (standing_then s w c.event).parts n × ((standing_then s w c.event).parts n ≡ s.parts n)
   left_by (of_ring effect nothing) r b l acts request room o =
-      (ring_keeps_left s.member e r i place b n s.parts s.hand (walk_place (controller_parts w)).walk.reply wire after now later l acts
-      request room ring.members ring.in_hand ring_alone spares hubs (of_queues effect) o).0
-  left_by (of_frame f) r b l acts request room o =
-      beside_keeps_left e r i place b n s.parts s.hand wire after now later l acts (part_stays f) f.hand_stays hubs
-      (frame_begins f r l acts request room o.request) o
+      ring_keeps_left s.member e r i place b n s.parts s.hand (walk_place (controller_parts w)).walk.reply wire after now later l acts
+      request room ring.members ring.in_hand ring_alone spares hubs (of_queues effect) o
+  left_by (of_frame f) r b l acts request room o = (
+    beside_keeps_left e r i place b n s.parts s.hand wire after now later l acts (part_stays f) f.hand_stays hubs
+        (frame_begins f r l acts request room o.request) o,
+    part_stays f,
+  )
+
+same_stages : (e : Endpoint) (o : Option Device) (c z : Stages) → o ≡ Some (device_of e c) → o ≡ Some (device_of e z) → c ≡ z
+same_stages e o c z one other = ap (λ (d : Device). d.stages) (same_Some (device_of e c) (device_of e z) (sym one ∙ other))
+
+pub unsent_acts_nothing : UnsentActsNothing
+unsent_acts_nothing fixed x s m h w k c e i place n stages alone spared other o =
+    let rests_then : HubRests e i place (wired fixed (controller_next fixed w)) stages =
+    unsent_rests fixed x s m h w k c e i place n alone spared other stages o in (
+      rests_then,
+      λ acted moves.
+          sym (moves_are_recorded e (wired fixed w) (wired fixed (controller_next fixed w)) acted moves)
+          ∙ ap (λ (z : Stages). acted_between z moves.leaves)
+          (same_stages e (control_at (wired fixed w) e.addr e.num) moves.before stages moves.was o.device)
+          ∙ ap (acted_between stages)
+          (same_stages e (control_at (wired fixed (controller_next fixed w)) e.addr e.num) moves.leaves stages moves.is rests_then.device)
+          ∙ none_acted stages,
+    )
 
 -- ---- while its requests are asked
 

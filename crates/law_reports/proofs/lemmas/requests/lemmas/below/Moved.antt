@@ -1,6 +1,6 @@
 -- Whichever way the queue of a control endpoint below a hub moves, host, hub and device stand as they must again.
-use Rattle.std.proofs.Common.{◌≡◌, ◌≢◌, ◌<◌, ◌≤◌, ◌⊎◌, ℕ, zero, suc, ◌==◌, Bool, true, false, List, [], ◌∷◌, Some, if◌then◌else◌, inl, inr, ⊎_elim}
-use Rattle.std.proofs.Common.{ap, refl, sym, subst, ◌∙◌, arith}
+use Rattle.std.proofs.Common.{◌≡◌, ◌<◌, ◌≤◌, ℕ, zero, suc, ◌==◌, Bool, true, false, List, [], ◌∷◌, Some, if◌then◌else◌}
+use Rattle.std.proofs.Common.{inl, inr, ⊎_elim, ap, refl, sym, subst, ◌∙◌, arith}
 use Rattle.std.proofs.lemmas.Bool.{cases_lt, false≢true}
 use Rattle.law_common.proofs.Numbers.{other_number, same_number}
 use Rattle.usb_base.specs.declared.endpoints.EndCause.{EndCause}
@@ -10,14 +10,14 @@ use Rattle.bus_wire.specs.Bus.{Wired}
 use Rattle.claims_report.specs.Requests.{Request}
 use Rattle.claims_world.specs.Requests.{Windows}
 use Rattle.law_request.specs.Host.{Endpoint, Stage, Setup, Done, Halted, is_over}
-use Rattle.law_request.specs.Line.{Line as Window, line_at}
+use Rattle.law_request.specs.Line.{line_at}
+use Rattle.law_request.specs.Windows.{IsRequest}
 use Rattle.law_request.proofs.Steps.{window_opens}
 use Rattle.law_devices.specs.ring_requests.Laid.{Places}
 use Rattle.law_devices.specs.ring_requests.Windows.{Queue, Lines, lines_at, stage_of}
 use Rattle.law_devices.specs.request_stores.Published.{with_request, without_first}
 use Rattle.law_below_hubs.specs.HostRequests.{RequestBelow, RestsAgain}
 use Rattle.law_below_hubs.proofs.RequestRests.{request_opens, request_rests}
-use Rattle.law_reports.specs.requests.driver_requests.Rows.{number_with}
 use Rattle.law_reports.specs.requests.world_requests.Recording.{IsOpened}
 use Rattle.law_reports.specs.requests.Courses.{Course, NoQueue, Asks, Rests, queue_in}
 use Rattle.law_reports.specs.requests.CourseMoves.{CourseMoves}
@@ -65,7 +65,7 @@ module _ (was ended : Bool) (i place : ℕ) (wire : Wired) (v : Windows) where
   module _ (stays : was ≡ true → ended ≡ true) where
     left_then : (e : Endpoint) (n : ℕ) → HubIsLeft was e i place wire v n → HubIsLeft ended e i place wire v n
     left_then e n (by_none s rests) = by_none s rests
-    left_then e n (by_errors t r l on latest is k) = by_errors t r l (stays on) latest is k
+    left_then e n (by_errors t r l on request latest is k) = by_errors t r l (stays on) request latest is k
 
     rests_then : (q : Queue) (s : Stages) (a : Numbers) → IsRestedBelow was i place wire v q s a → IsRestedBelow ended i place wire v q s a
     rests_then q s a k = record { max = k.max; hub = left_then q.endpoint a.endpoint k.hub; behind = k.behind }
@@ -131,7 +131,7 @@ module _ (was ended : Bool) (i place : ℕ) (wire : Wired) (v : Windows) where
       opened_by (by_none c rests) r ping =
           let o = request_opens q.endpoint r i place wire ping c rests in
           record { side = o.side; stands = window_opens q.endpoint r ping s k.max; within = inl refl }
-      opened_by (by_errors t r l on latest is held) other ping = absurd (going (stays on))
+      opened_by (by_errors t r l on request latest is held) other ping = absurd (going (stays on))
 
       begun : (w : Queue) (ping : Bool) → w.endpoint ≡ q.endpoint → 0 < w.count → 0 < a.requests.count
           → IsAskedBelow i place wire v w (lines_at w ping s) a
@@ -154,14 +154,14 @@ module _ (was ended : Bool) (i place : ℕ) (wire : Wired) (v : Windows) where
           request_rests q.endpoint (q.requests l.under) i place wire (l.line l.under) (v.acts (a.number l.under)) over
           (not_broken (stage_of l) sound) k.request
 
-      halted_hub : is_over (stage_of l) ≡ true → (stage_of l ≡ Halted Causes.Error → ended ≡ true)
+      halted_hub : IsRequest (q.requests l.under) → is_over (stage_of l) ≡ true → (stage_of l ≡ Halted Causes.Error → ended ≡ true)
           → (b : Bool) → is_broken (stage_of l) ≡ b → HubIsLeft ended q.endpoint i place wire v a.endpoint
-      halted_hub over errors true on =
-          by_errors (a.number l.under) (q.requests l.under) (l.line l.under) (errors (broken (stage_of l) on))
+      halted_hub request over errors true on =
+          by_errors (a.number l.under) (q.requests l.under) (l.line l.under) (errors (broken (stage_of l) on)) request
           (⊎_elim {C = v.opened a.endpoint ≡ Some (a.number l.under)} (λ (at : v.opened a.endpoint ≡ Some (a.number l.under)). at)
           (λ (first : stage_of l ≡ Setup). absurd (setup_goes_on (stage_of l) first on)) k.latest)
           (broken (stage_of l) on) k.request
-      halted_hub over errors false sound = let z = over_rests over sound in by_none z.stages z.rests
+      halted_hub request over errors false sound = let z = over_rests over sound in by_none z.stages z.rests
 
       done_hub : stage_of l ≡ Done → RestsAgain q.endpoint i place wire
       unfolding is_broken
@@ -284,7 +284,8 @@ module _ (was ended : Bool) (i place : ℕ) (wire : Wired) (v : Windows) where
         now_as (Rests (without_requests q) m (l.line l.under).device) (all_closed a) d_is b_is
         (record {
           max = z.request.stands.device_max;
-          hub = halted_hub x.stays_ended q l a z (within_as (Asks q m l) c_is) over errors (is_broken (stage_of l)) refl;
+          hub = halted_hub x.stays_ended q l a z (within_as (Asks q m l) c_is) (x.request q m l c_is) over errors (is_broken (stage_of l))
+              refl;
           behind = λ j few. absurd (omega (arith, few));
         })
     moved_by (mends q m s ping c_is d_is b_is) =

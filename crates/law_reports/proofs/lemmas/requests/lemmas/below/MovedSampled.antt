@@ -1,5 +1,5 @@
 -- The first request of a control endpoint below a hub is published, worked.
-use Rattle.std.proofs.Common.{◌≡◌, false, [], refl, arith}
+use Rattle.std.proofs.Common.{◌≡◌, false, refl, arith}
 use Rattle.std.proofs.lemmas.Bool.{false≢true}
 use Rattle.claims_world.specs.Requests.{no_windows}
 use Rattle.law_below_hubs.proofs.WorkedRequests.{hub_rests_first}
@@ -24,6 +24,7 @@ moved_so = record {
   ahead = omega arith;
   within = omega arith;
   new = λ more. refl;
+  request = λ q m l is. cc;
   opens = λ q m s is then. cc;
 }
 

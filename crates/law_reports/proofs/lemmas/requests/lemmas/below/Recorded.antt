@@ -8,8 +8,8 @@ use Rattle.dev_control.specs.Stages.{Stages}
 use Rattle.bus_wire.specs.Bus.{Wired, Fixed}
 use Rattle.bus_world.specs.World.{World, controller_next}
 use Rattle.claims_report.specs.Controls.{is_at}
-use Rattle.claims_world.specs.Requests.{wired, endpoint_of, Windows, stages_at, side_of, acted_with, acted_between, acts_in, begun_by, opened_by}
-use Rattle.claims_world.specs.Requests.{acted_by, after_event}
+use Rattle.claims_world.specs.Requests.{wired, endpoint_of, Windows, stages_at, side_of, acted_with, acted_between, acts_in, begun_by}
+use Rattle.claims_world.specs.Requests.{opened_by, acted_by, after_event}
 use Rattle.law_structures.specs.lent_structures.Structures.{StructureSets}
 use Rattle.law_ring.specs.Hand.{Hand}
 use Rattle.law_request.specs.Host.{Endpoint, Done}
@@ -48,7 +48,8 @@ module _ (fixed : Fixed) (w : World) (v : Windows) (x : Endpoint) (a : Numbers) 
       → acted_by fixed w (controller_next fixed w) a.endpoint ≡ acted_between c z
   acted_from c z was is =
       ap (λ o. acted_with (side_of fixed w o) (side_of fixed (controller_next fixed w) o)) k.named.here
-      ∙ ap (λ (n : ℕ). acted_with (stages_at wire n k.named.own.desc.name.num) (stages_at after n k.named.own.desc.name.num)) k.named.address
+      ∙ ap (λ (n : ℕ). acted_with (stages_at wire n k.named.own.desc.name.num) (stages_at after n k.named.own.desc.name.num))
+      k.named.address
       ∙ ap (λ (n : ℕ). acted_with (stages_at wire x.addr n) (stages_at after x.addr n)) k.named.number
       ∙ ap (λ (o : Option Stages). acted_with o (stages_at after x.addr x.num)) was
       ∙ ap (acted_with (Some c)) is
@@ -214,9 +215,9 @@ rest_is_recorded_below fixed w ended i place v q s c a k was is o =
 -- ---- after errors
 
 pub left_is_recorded_below : LeftIsRecordedBelow
-left_is_recorded_below fixed w ended i place b n t v q s r l a hand parts k on empty of open_now m o = record {
+left_is_recorded_below fixed w ended i place b n t v q s r l a hand parts request k on empty of open_now m o = record {
   max = o.max;
-  hub = by_errors t r l on open_now m.left.ended
+  hub = by_errors t r l on request open_now m.left.ended
       (subst (λ (acts : List (List ℕ)). RequestBelow q.endpoint r i place (wired fixed (controller_next fixed w)) l acts)
       (sym (acts_open fixed w v q.endpoint a k m.acted (acted_in fixed w v q.endpoint a k m.acted m.device) t of open_now))
       m.left.request);

@@ -44,7 +44,7 @@ use Rattle.law_reports.proofs.lemmas.requests.lemmas.world_requests.Queues.{no_s
 use Rattle.law_reports.proofs.lemmas.requests.lemmas.world_requests.Turning.{world_has_row}
 use Rattle.law_reports.proofs.lemmas.requests.Seats.{stages_as}
 
-works_only : (e : Endpoint) (r : Request) (x : Places) (part : Structures) (side : HostSide) (q : Qh) (h : Host) → side.active ≡ true → Shows e r x part side q h → Works e r x part side q h
+pub works_only : (e : Endpoint) (r : Request) (x : Places) (part : Structures) (side : HostSide) (q : Qh) (h : Host) → side.active ≡ true → Shows e r x part side q h → Works e r x part side q h
 works_only e r x part side q h on (works w) = w
 works_only e r x part side q h on (waits w) = absurd (false≢true (sym w.idle ∙ on))
 works_only e r x part side q h on (Shows.ends w) = absurd (false≢true (sym w.idle ∙ on))
