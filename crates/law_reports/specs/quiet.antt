@@ -8,3 +8,4 @@ pub mod Replies
 pub mod Laws
 pub mod Samples
 pub mod SparedSamples
+pub mod HubSamples

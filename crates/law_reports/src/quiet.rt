@@ -21,10 +21,12 @@ ghost use Rattle.law_reports.specs.quiet.HeardLaws.{
   TextsAreHeard,
   TextsFailBelow,
 };
-ghost use Rattle.law_reports.specs.quiet.AwaitingLaws.{TextsHaveHubs, TextsOpenAwaited, TextsAreAwaited, TextsSpareBuffered};
+ghost use Rattle.law_reports.specs.quiet.AwaitingLaws.{HaveHubs, TextsHaveHubs, TextsOpenAwaited, TextsAreAwaited, TextsSpareBuffered};
 ghost use Rattle.claims_world.specs.Misses.{MissesAreBelow};
 ghost use Rattle.claims_world.specs.Quiet.{IsHeardAbove, ErrorsAreBelow, LeavesBuffers, ErrorsAreOfInterrupts};
 ghost use Rattle.law_reports.specs.quiet.SparedSamples.{clears_buffer, stick, asker};
+ghost use Rattle.law_opened.specs.Samples.{beside_split};
+ghost use Rattle.law_reports.specs.quiet.HubSamples.{lacks_hub};
 ghost use Rattle.law_reports.specs.quiet.HeardSamples.{lost_below, lost_above, answers_nyet, told_of};
 ghost use Rattle.law_reports.specs.quiet.Samples.{missed_of};
 ghost use Rattle.law_world.specs.memory.Samples.{keyboard, disk};
@@ -120,6 +122,12 @@ pub fn texts_are_awaited()
 /// Each endpoint that a text opens on a device that isn't at high speed is behind a port of a hub of the script.
 pub fn texts_have_hubs()
     ensures { TextsHaveHubs }
+{}
+
+/// A keyboard at a port of a hub of its script has it; without the hub it has none.
+pub fn a_hub_is_named()
+    ensures named { HaveHubs beside_split }
+    ensures unnamed { HaveHubs lacks_hub → ⊥ }
 {}
 
 /// Before the first line each bulk or control endpoint that a text opens below a hub has its hub and its end, and nothing is awaited of it.

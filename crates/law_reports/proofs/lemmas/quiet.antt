@@ -32,3 +32,4 @@ pub mod ControlOpens
 pub mod AwaitedOpens
 pub mod AwaitedLines
 pub mod SparedSampled
+pub mod HubsSampled
