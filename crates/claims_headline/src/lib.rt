@@ -3,6 +3,7 @@
 //! proved of.
 //!
 //! - specs/Headline.antt: the sentence.
+//! - specs/Pipes.antt: the clause `pipes`.
 //!
 //! There is no code: each function is a worked row, and its body is empty.
 #![tactic(auto)]

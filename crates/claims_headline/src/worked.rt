@@ -1,10 +1,13 @@
-//! Worked rows of the headline, which the check computes, for a device with one endpoint.
-ghost use Rattle.std.specs.Prelude.{[], ◌∷◌, Some};
+//! Worked rows of the headline and of pipes, which the check computes.
+ghost use Rattle.std.specs.Prelude.{◌≡◌, true, [], ◌∷◌, Some, None};
 ghost use Rattle.script_types.specs.declared.devices.Item.TheVariants.{Bytes};
 ghost use Rattle.usb_base.specs.declared.packets.EpKind.TheVariants.{Interrupt};
 ghost use Rattle.usb_base.specs.declared.packets.Speed.TheVariants.{Low};
+ghost use Rattle.toggle_error.specs.declared.host.Outcome.TheVariants.{Moved};
+ghost use Rattle.qh_qtd.specs.declared.queue_head.Qh.{Qh};
 ghost use Rattle.claims_report.specs.Samples.{script_of, line_of, report_of, sender, bulk};
 ghost use Rattle.claims_headline.specs.Headline.{IsOfStreams, TellsStreams};
+ghost use Rattle.claims_headline.specs.Pipes.{toggle_of_copy};
 
 use usb_base::What;
 
@@ -22,4 +25,12 @@ pub fn what_is_told_begins_the_stream()
 pub fn a_keyboard_behind_a_hub_is_none()
     ensures { IsOfStreams (script_of (bulk sender) [] [])
         (record (bulk sender) { kind = Interrupt; speed = Low; hub = Some 9; port = 1 }) → ⊥ }
+{}
+
+/// A copy in hand tells the toggle of its queue head once its transaction was made; before that, and of any other queue head, words do.
+pub fn a_copy_tells_the_toggle_after_its_transaction()
+    ensures made { (q : Qh)
+        → toggle_of_copy 4160 (Some (record { at = 4160; queue_head = q; settled = Some (Moved 2) })) true ≡ q.token.toggle }
+    ensures before { (q : Qh) → toggle_of_copy 4160 (Some (record { at = 4160; queue_head = q; settled = None })) true ≡ true }
+    ensures other { (q : Qh) → toggle_of_copy 4352 (Some (record { at = 4160; queue_head = q; settled = Some (Moved 2) })) true ≡ true }
 {}

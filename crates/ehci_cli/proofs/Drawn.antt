@@ -20,7 +20,8 @@ use Rattle.script_forms.specs.Values.{statement_of}
 use Rattle.script_world.specs.Draft.{Draft, device_of, known}
 use Rattle.script_world.specs.Ranges.{within, is_endpoint, is_slots}
 use Rattle.script_world.specs.Rows.{cause_of, is_late, is_known, commanded, where_known, control_name, after}
-use Rattle.script_text.specs.Reading.{lines_in, words_in, says, may_stand, no_bytes, answer, form_read, first_read, words_read, version_read}
+use Rattle.script_text.specs.Reading.{lines_in, words_in, says, may_stand, no_bytes, answer, form_read, first_read}
+use Rattle.script_text.specs.Reading.{words_read, version_read}
 use Rattle.script_text.specs.Reading.{line_read, onward, lines_read, script_after, text_read, script_read}
 use Rattle.script_text.specs.Faults.{Spells}
 use Rattle.script_load.specs.declared.parts.LoadPart.TheVariants as parts

@@ -9,3 +9,4 @@ pub mod Whole
 pub mod Causes
 pub mod Drawn
 pub mod Headline
+pub mod Pipes
