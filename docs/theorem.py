@@ -90,11 +90,13 @@ SAYS = {
                     "that, or NYET in this one. And where the translator of its hub and port had its whole start-split once the walk of the frames "
                     "was over in that microframe, its hub hasn't heard last to clear a buffer or to reset a translator since, and neither a "
                     "complete-split of it nor the answer to one is lost: by the end of the walk of the frames in the last microframe of its C-mask "
-                    "the host heard in a complete-split what the device said to the translator. That a result moves its bytes is in `results`.",
+                    "the host heard in a complete-split what the device said to the translator. So it is, whatever the translator had, where the start-split isn't lost either and its hub heard no such request last in that microframe; "
+                    "and where that is data with the queue head's toggle for which it has room, or the acknowledgement of what it sent, these bytes moved.",
     "sitds": "Once the walk of the frames is over in a microframe that isn't held, where no more than 4 microseconds went for complete-splits made "
              "again: the siTDs to which it came with a transaction to be made in this microframe are those that were written back after it, one for "
              "one: of an OUT a part, with which there is one fewer to send; of an IN its start-split, or a complete-split; parts and complete-splits "
-             "mark the microframe as done.",
+             "mark the microframe as done. MDATA that an IN has room for is taken, and it goes on; such DATA0 is taken and ends it without an error "
+             "bit; NYET, but at the last, leaves it.",
     "sitds_at_begin": "Once the walk of the frames is over in such a microframe: each siTD to which the links of its frame led as the microframe "
                       "began, and of which a transaction was to come in this microframe by its words then, had that transaction and was written "
                       "back after it, unless a cancel of its endpoint was accepted since; and so did that of a cancelled endpoint to which they "
