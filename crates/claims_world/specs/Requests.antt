@@ -1,9 +1,10 @@
 -- Whatever endpoints a script opens, at each moment of its run each device acted at most once on each request of a control endpoint at high
 -- speed, and only on its setup bytes; the report tells of its requests in their order: a request that is done was acted on exactly once,
 -- and the bytes told of it are those of its data; those of one that halted begin its data; and `acted` is told as the number of requests
--- that were acted on. After the run these are all its requests. So it is of an endpoint that is cancelled, but nothing is said of the line
--- of its cancel. Of a hub's own control endpoint nothing is said: a hub answers by its own state, and not by lines of the script; nor of
--- one below a hub's translator (EHCI 1.0, 3.5 and 4.10; USB 2.0, 5.5, 8.5.3 and 11.17).
+-- that were acted on. After the run these are all its requests. So it is of an endpoint that is cancelled: the line of its cancel tells
+-- beginnings of the data of all requests that no line told of, joined. Of a hub's own control endpoint nothing is said: a hub answers by
+-- its own state, and not by lines of the script; nor of one below a hub's translator (EHCI 1.0, 3.5 and 4.10; USB 2.0, 5.5, 8.5.3 and
+-- 11.17).
 --     opens command b            the unfinished command opens the endpoint with its queue head in block b
 --     is_opening d x             endpoint x is being opened: its queue head isn't in the ring yet
 --     setup_at d a               the number of the first request of the driver that isn't given back and whose first qTD stands at a
@@ -25,20 +26,18 @@
 --                                bytes
 --     IsOpenControl d e x        endpoint e of the driver is x, a control endpoint that was opened
 --     IsOfDevice s k e x         .. at moment k, at high speed, of a device that is no hub
---     before_cancel lines        the lines but those of a cancel
 --     windows_then s k e         the windows of its transfers at moment k, each with its request and the acts of the device
 --     RequestsAreKept s k e x    in each of them the device acted at most once, and on nothing but the setup bytes of the request; the
 --                                lines tell of them, in their order: a request that is done was acted on exactly once, and the bytes of its
---                                line are its data; where it halted, they begin its data; and the closing line tells how many were acted
---                                on. Of an endpoint that was cancelled so do its lines but the one of its cancel, of which nothing is said.
+--                                line are its data; where it halted, they begin its data; the line of a cancel tells beginnings of the
+--                                data of those that no line told of, joined; and the closing line tells how many were acted on
 --     KeepsRequests s            so it is of each of them at each moment; and at the end of the run its windows are those of all requests
---                                that the script has for it, and the requests of each that isn't cancelled are right
+--                                that the script has for it, and its requests are right
 use Rattle.std.specs.List.{AllByRecursion}
 use Rattle.std.specs.Prelude.{◌≡◌, ℕ, zero, suc, ◌*◌, Bool, ◌==◌, true, ◌&&◌, not, false, List, [], position, ◌++◌, ◌∷◌, length, filter, slice_get, map, Option, Some, if◌then◌else◌, None, option_map}
 use Rattle.usb_base.specs.declared.commands.Cmd.{Cmd}
 use Rattle.usb_base.specs.declared.commands.Cmd.TheVariants as commands
 use Rattle.usb_base.specs.declared.packets.Speed.TheVariants.{High}
-use Rattle.usb_base.specs.declared.reports.Report.{Report}
 use Rattle.script_types.specs.declared.scripts.Event.{Event}
 use Rattle.script_types.specs.declared.scripts.Event.TheVariants as events
 use Rattle.script_types.specs.declared.scripts.Script.{Script}
@@ -64,11 +63,10 @@ use Rattle.claims_report.specs.Acts.{IsOnce, acts_if, done_of}
 use Rattle.claims_report.specs.ControlSides.{Device}
 use Rattle.claims_report.specs.Controls.{control_of_device, is_at, is_of_hub}
 use Rattle.claims_report.specs.Reports.{WholeReport, lines_of, acted}
-use Rattle.claims_report.specs.Requests.{data_of, requests, Request, Window, has_acted, AreTold, AreRightRequests}
+use Rattle.claims_report.specs.Requests.{data_of, Request, Window, has_acted, AreTold, AreRightRequests}
 use Rattle.bus_world.specs.Budgets.{moment}
 use Rattle.bus_world.specs.Orders.{Left, Events, Microframes, Answer, Command as OrderedCommand, OrderedWorld, Plugs}
 use Rattle.bus_world.specs.World.{World, controller_next, kind_next}
-use Rattle.claims_world.specs.Pending.{is_cancel}
 use Rattle.claims_world.specs.Streams.{report_of}
 
 abbrev pub opens : Option Command → ℕ → Bool
@@ -262,14 +260,9 @@ report_at s k = report_of (fixed_of s) (moment s k).world
 abbrev pub windows_then : Script → ℕ → ℕ → List Window
 windows_then s k e = windows_of (moment s k).world.driver (asks_at s k) (windows_at s k) e
 
-abbrev pub before_cancel : List Report → List Report
-before_cancel lines = filter (λ line. not (is_cancel line.what)) lines
-
 pub record RequestsAreKept (s : Script) (k e : ℕ) (x : Endpoint) : Type 0 where
   pub once : AreOnce (asks_at s k) (windows_at s k) (moment s k).world.driver e
-  pub told : x.cancelled ≡ false → AreTold (data_of s x.desc.name) (report_at s k).store (windows_then s k e) (lines_of (report_at s k) x.desc.name)
-  pub before : AreTold (data_of s x.desc.name) (report_at s k).store (windows_then s k e)
-      (before_cancel (lines_of (report_at s k) x.desc.name))
+  pub told : AreTold (data_of s x.desc.name) (report_at s k).store (windows_then s k e) (lines_of (report_at s k) x.desc.name)
   pub counted : acted (report_at s k) x.desc.name ≡ Some (length (filter has_acted (windows_then s k e)))
 
 pub record IsOfDevice (s : Script) (k e : ℕ) (x : Endpoint) : Type 0 where
@@ -279,7 +272,5 @@ pub record IsOfDevice (s : Script) (k e : ℕ) (x : Endpoint) : Type 0 where
 
 pub record KeepsRequests (s : Script) : Type 0 where
   pub throughout : (k e : ℕ) (x : Endpoint) → IsOfDevice s k e x → RequestsAreKept s k e x
-  pub all : (k e : ℕ) (x : Endpoint) → (moment s k).orders ≡ [] → IsOfDevice s k e x
-      → map (λ w. w.request) (windows_then s k e) ≡ requests s (report_at s k) x.desc.name
-  pub at_the_end : (k e : ℕ) (x : Endpoint) → (moment s k).orders ≡ [] → IsOfDevice s k e x → x.cancelled ≡ false
+  pub at_the_end : (k e : ℕ) (x : Endpoint) → (moment s k).orders ≡ [] → IsOfDevice s k e x
       → AreRightRequests s (report_at s k) x.desc.name (windows_then s k e)

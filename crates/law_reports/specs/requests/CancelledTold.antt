@@ -1,19 +1,22 @@
 -- What the lines of a cancelled control endpoint tell, but for the one of its cancel (EHCI 1.0, 4.8.2 and 4.10; USB 2.0, 8.5.3).
+--     before_cancel lines                the lines but those of a cancel
 --     IsToldBefore d asks v whole e x    they tell of the first windows of endpoint e, which is x, in their order
 --     CancelledAreTold g w v asks        so it is of each of these control endpoints that was cancelled
 --     DriverKeepsCancelled, ControllerKeepsCancelled, CommandKeepsCancelled
 --                                        each event and each command leaves it
 --     TextsTellOfCancelled               so it is at each moment of each script that a text spells
-use Rattle.std.specs.Prelude.{◌≡◌, ℕ, true, List, slice_get, Some}
+use Rattle.std.specs.Prelude.{◌≡◌, ℕ, true, not, List, filter, slice_get, Some}
 use Rattle.usb_base.specs.declared.commands.Cmd.{Cmd}
 use Rattle.usb_base.specs.declared.endpoints.EpName.{EpName}
+use Rattle.usb_base.specs.declared.reports.Report.{Report}
 use Rattle.script_types.specs.declared.scripts.Script.{Script}
 use Rattle.script_text.specs.Faults.{Spells}
 use Rattle.bus_wire.specs.Bus.{Fixed}
 use Rattle.bus_world.specs.Budgets.{moment}
 use Rattle.bus_world.specs.World.{World, driver_next, controller_next, commanded}
 use Rattle.claims_report.specs.Requests.{Request, AreTold}
-use Rattle.claims_world.specs.Requests.{before_cancel, Windows, windows_of, asks_then, after_event, windows_at, asks_at}
+use Rattle.claims_world.specs.Pending.{is_cancel}
+use Rattle.claims_world.specs.Requests.{Windows, windows_of, asks_then, after_event, windows_at, asks_at}
 use Rattle.drv_table.specs.declared.content.Endpoint.{Endpoint}
 use Rattle.drv_table.specs.DriverContent.{DriverContent}
 use Rattle.drv_table.specs.Words.{is_control}
@@ -23,6 +26,9 @@ use Rattle.law_reports.specs.pipes.Declared.{Sides as Pipes}
 use Rattle.law_reports.specs.requests.Asking.{Sides}
 use Rattle.law_reports.specs.requests.HighAsking.{HasHighAsks}
 use Rattle.law_reports.specs.requests.HighGiven.{high_sides_of}
+
+abbrev pub before_cancel : List Report → List Report
+before_cancel lines = filter (λ line. not (is_cancel line.what)) lines
 
 abbrev pub IsToldBefore : DriverContent → (ℕ → Request) → Windows → (EpName → Request → List ℕ) → ℕ → Endpoint → Type 0
 IsToldBefore d asks v whole e x =

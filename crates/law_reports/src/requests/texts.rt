@@ -4,20 +4,13 @@ ghost use Rattle.script_world.specs.Draft.{hub_desc};
 ghost use Rattle.law_driver.specs.AsynchronousScripts.{AsynchronousOnly};
 ghost use Rattle.law_devices.specs.declared_controls.Samples.{zero, beside_bulk};
 ghost use Rattle.law_reports.specs.requests.Given.{is_of_device};
-ghost use Rattle.law_reports.specs.requests.Kept.{TextsKeepRequests, TextsTellRequests, RequestsAreRight};
+ghost use Rattle.law_reports.specs.requests.Kept.{TextsKeepRequests};
 
 /// Of each text, whatever it opens: in the window of each request of a control endpoint at high speed a device that is no hub acts at most
 /// once, and on nothing but its setup bytes. A request that is reported done was acted on exactly once, and the bytes that are told are its
 /// data; at the end all that the text asks for is told.
 pub fn texts_keep_requests()
     ensures { TextsKeepRequests }
-{}
-
-/// Of each text, too: all lines of each of these endpoints tell of its requests in their order, also of one that was cancelled: the line of
-/// its cancel tells beginnings of the data of all requests that no line told of, joined. At the end its requests are right.
-pub fn texts_tell_requests()
-    ensures throughout { TextsTellRequests }
-    ensures at_the_end { RequestsAreRight }
 {}
 
 /// So it is of a script that opens a device's control endpoint, a bulk one and a hub's own: of the requests of the device all this is said,

@@ -30,7 +30,8 @@ use Rattle.claims_report.specs.Reports.{acted}
 use Rattle.claims_report.specs.Requests.{Window, data_of, AreTold}
 use Rattle.claims_world.specs.Carried.{carried_in, carried_from, carried}
 use Rattle.claims_world.specs.Requests.{Windows, no_windows, after_event, after_orders, windows_at, asks_at, windows_of, report_at}
-use Rattle.claims_world.specs.Requests.{windows_then, before_cancel, IsOfDevice}
+use Rattle.claims_world.specs.Requests.{windows_then, IsOfDevice}
+use Rattle.law_reports.specs.requests.CancelledTold.{before_cancel}
 use Rattle.law_world.proofs.lemmas.memory.Carrying.{carried_then}
 use Rattle.law_devices.specs.declared_controls.Samples.{zero as control, reading}
 use Rattle.law_reports.specs.requests.AskedSamples.{asked_once, asked_windows, asked_lines, its_window, asked_hub}

@@ -15,7 +15,7 @@ use Rattle.usb_base.specs.declared.reports.What.TheVariants.{Refused}
 use Rattle.bus_wire.specs.Bus.{Fixed}
 use Rattle.bus_wire.specs.Fates.{is_same_name}
 use Rattle.claims_report.specs.Requests.{Request}
-use Rattle.claims_world.specs.Requests.{before_cancel, Windows, windows_of, opens, is_opening, asks_then}
+use Rattle.claims_world.specs.Requests.{Windows, windows_of, opens, is_opening, asks_then}
 use Rattle.drv_table.specs.declared.content.Command.{Command}
 use Rattle.drv_table.specs.declared.content.Endpoint.{Endpoint}
 use Rattle.drv_table.specs.declared.content.Transfer.{Transfer}
@@ -34,6 +34,7 @@ use Rattle.law_driver.proofs.lemmas.queued_drivers.CommandReasons.{reason_of}
 use Rattle.law_queues.proofs.lemmas.told_endpoints.Lines.{line_of_other}
 use Rattle.bus_world.specs.World.{World, name_in, refused_line, commanded_by}
 use Rattle.law_world.proofs.lemmas.streams.lemmas.put_laws.Stays.{owner_at, owners_in}
+use Rattle.law_reports.specs.requests.CancelledTold.{before_cancel}
 use Rattle.law_reports.specs.pipes.Declared.{Sides as Pipes}
 use Rattle.law_reports.proofs.lemmas.pipes.Accepted as news
 use Rattle.law_reports.proofs.lemmas.pipes.Accepted.{IsNewest, EndsThen, ends_then}

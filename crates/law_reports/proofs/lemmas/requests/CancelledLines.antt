@@ -12,7 +12,7 @@ use Rattle.bus_wire.specs.Fates.{is_same_name}
 use Rattle.claims_report.specs.Reports.{is_line_of}
 use Rattle.claims_driver.specs.Leaving.{HasOwners}
 use Rattle.claims_world.specs.Pending.{is_cancel}
-use Rattle.claims_world.specs.Requests.{before_cancel}
+use Rattle.law_reports.specs.requests.CancelledTold.{before_cancel}
 use Rattle.drv_periodic_table.specs.declared.content.Removed.TheVariants as removed
 use Rattle.drv_table.specs.declared.content.Endpoint.{Endpoint}
 use Rattle.drv_table.specs.declared.rows.DriverRow.{DriverRow}

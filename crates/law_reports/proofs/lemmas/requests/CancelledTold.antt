@@ -15,7 +15,7 @@ use Rattle.claims_report.specs.Controls.{control_of}
 use Rattle.claims_report.specs.Reports.{is_line_of}
 use Rattle.claims_report.specs.Requests.{Request, Window, AreTold}
 use Rattle.claims_world.specs.Pending.{is_cancel}
-use Rattle.claims_world.specs.Requests.{before_cancel}
+use Rattle.law_reports.specs.requests.CancelledTold.{before_cancel}
 use Rattle.claims_world.specs.Requests.{wired, Windows, numbers_of, window_at, windows_of, opens, is_opening, side_of, acted_with}
 use Rattle.claims_world.specs.Requests.{acted_by}
 use Rattle.claims_world.specs.Requests.{after_event, begun_by}

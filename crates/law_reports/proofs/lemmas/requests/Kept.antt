@@ -39,7 +39,7 @@ use Rattle.law_world.proofs.lemmas.streams.lemmas.taken_reports.Seating.{moment_
 use Rattle.law_queues.proofs.lemmas.leaving_drivers.Unmet.{gone_are_unmet}
 use Rattle.law_world.proofs.lemmas.streams.lemmas.put_laws.Rising.{texts_rise}
 use Rattle.law_queues.proofs.lemmas.told_endpoints.Names.{name_is_same, driver_name}
-use Rattle.claims_world.specs.Requests.{wired, Windows, windows_at, asks_at, numbers_of, window_at, windows_of, AreOnce, opens, is_opening, IsOpenControl, report_at, windows_then, before_cancel}
+use Rattle.claims_world.specs.Requests.{wired, Windows, windows_at, asks_at, numbers_of, window_at, windows_of, AreOnce, opens, is_opening, IsOpenControl, report_at, windows_then}
 use Rattle.claims_world.specs.Requests.{RequestsAreKept, IsOfDevice}
 use Rattle.law_reports.proofs.lemmas.requests.lemmas.told_requests.Claims.{report_numbers, report_tells, report_counts}
 use Rattle.law_reports.proofs.lemmas.requests.lemmas.told_requests.Moments.{moments_ask}
@@ -58,12 +58,10 @@ use Rattle.law_reports.specs.requests.Footing.{IsFooting}
 use Rattle.law_reports.specs.requests.Given.{is_of_device}
 use Rattle.law_reports.specs.requests.HighAsking.{told_world, told_standing, told_streams, IsSuited, HasHighAsks}
 use Rattle.law_reports.specs.requests.HighGiven.{high_sides_of}
-use Rattle.law_reports.specs.requests.Kept.{TextsKeepRequests, TextsTellRequests, RequestsAreRight}
+use Rattle.law_reports.specs.requests.Kept.{TextsKeepRequests}
 use Rattle.law_reports.specs.requests.told_requests.Told.{RequestsAreToldTo}
 use Rattle.law_reports.proofs.lemmas.requests.Footing.{control_zero}
-use Rattle.law_reports.proofs.lemmas.requests.CancelledMoments.{texts_tell_of_cancelled}
 use Rattle.law_reports.proofs.lemmas.requests.LeftWhole.{texts_tell_cancels}
-use Rattle.law_reports.proofs.lemmas.requests.CancelledTold.{each_is_told}
 use Rattle.law_reports.proofs.lemmas.requests.HighFooting.{high_footing}
 use Rattle.law_reports.proofs.lemmas.requests.HighMoments.{texts_have_high_asks}
 use Rattle.law_reports.proofs.lemmas.requests.HighOpened.{told_as, opened_told}
@@ -260,14 +258,6 @@ module _ (text : List ℕ) (s : Script) (spelled : Spells text s) where
       (ap (λ (w : Way). is_control (queued_kind w)) way) (ap not k.device))
       (ap not none)
 
-  -- .. but for the line of its cancel
-  told_before : (n e : ℕ) (x : Endpoint) → IsOfDevice s n e x
-      → AreTold (data_of s x.desc.name) (report_at s n).store (windows_then s n e) (before_cancel (lines_of (report_at s n) x.desc.name))
-  told_before n e x k =
-      each_is_told (high_sides_of s) (fixed_of s) (pipes_of s) (windows_at s n) (asks_at s n) (moment s n).world (world_at n) e x
-      k.opened.here k.opened.control (is_asked n e x k) (texts_tell_of_cancelled text s spelled n)
-
-  -- .. and with it
   whole_told : (n e : ℕ) (x : Endpoint) → IsOfDevice s n e x
       → AreTold (data_of s x.desc.name) (report_at s n).store (windows_then s n e) (lines_of (report_at s n) x.desc.name)
   whole_told n e x k = by x.cancelled refl
@@ -287,8 +277,7 @@ module _ (text : List ℕ) (s : Script) (spelled : Spells text s) where
       let on = is_asked n e x k in
       record {
         once = all_once g (fixed_of s) (pipes_of s) (windows_at s n) (asks_at s n) w h e x k.opened on;
-        told = λ going. whole_told n e x k;
-        before = told_before n e x k;
+        told = whole_told n e x k;
         counted = closing_counts g (fixed_of s) (pipes_of s) (windows_at s n) (asks_at s n) w h e x k.opened on
             (moment_is_seated text s n spelled).apart (windows_few n e x k.opened);
       }
@@ -304,12 +293,5 @@ module _ (text : List ℕ) (s : Script) (spelled : Spells text s) where
       let now = kept_at n e x k in
       record { numbered = all_at_the_end n e x over k; once = now.once; lines_told = whole_told n e x k; counted = now.counted }
 
-pub texts_tell_requests : TextsTellRequests
-texts_tell_requests text s spelled = whole_told text s spelled
-
-pub requests_are_right : RequestsAreRight
-requests_are_right text s spelled = right_at_the_end text s spelled
-
 pub texts_keep_requests : TextsKeepRequests
-texts_keep_requests text s spelled =
-    record { throughout = kept_at text s spelled; all = all_at_the_end text s spelled; at_the_end = λ n e x over k going. right_at_the_end text s spelled n e x over k }
+texts_keep_requests text s spelled = record { throughout = kept_at text s spelled; at_the_end = right_at_the_end text s spelled }

@@ -15,7 +15,7 @@ use Rattle.bus_wire.specs.Bus.{Fixed, fixed_of}
 use Rattle.bus_world.specs.Budgets.{moment}
 use Rattle.claims_report.specs.Requests.{Request, Window, AreBegun, IsTold, left_by, AreTold}
 use Rattle.claims_world.specs.Pending.{is_cancel}
-use Rattle.claims_world.specs.Requests.{Windows, windows_at, asks_at, before_cancel, numbers_of, window_at, windows_of, is_opening}
+use Rattle.claims_world.specs.Requests.{Windows, windows_at, asks_at, numbers_of, window_at, windows_of, is_opening}
 use Rattle.drv_table.specs.declared.content.Endpoint.{Endpoint}
 use Rattle.drv_table.specs.Words.{is_control}
 use Rattle.law_driver.specs.endpoint_lives.Lives.{may_meet}
@@ -23,6 +23,7 @@ use Rattle.law_driver.specs.queued_drivers.Queued.{queued_desc, queued_endpoint,
 use Rattle.law_driver.proofs.lemmas.queued_drivers.CommandFields.{name_same}
 use Rattle.law_queues.specs.told_endpoints.Telling.{lines_in}
 use Rattle.bus_world.specs.World.{World}
+use Rattle.law_reports.specs.requests.CancelledTold.{before_cancel}
 use Rattle.law_reports.specs.pipes.Declared.{Sides as Pipes, sides_of as pipes_of}
 use Rattle.law_reports.specs.requests.Asking.{Sides}
 use Rattle.law_reports.specs.requests.CancelledTold.{CancelledAreTold}
