@@ -1,3 +1,2 @@
 pub mod Published
 pub mod Samples
-pub mod Rests

@@ -1,6 +1,5 @@
-//! Of each script that a text spells, each high-speed bulk OUT endpoint that is opened has its taker on the bus of the script.
+//! The takers of the endpoints that a script opens (USB 2.0, 5.8 and 8.6).
 //!
-//! The module has no code of its own: each function is a law over the definitions of `script_text`, and its body is empty.
+//! The module has no code of its own: its function is a worked row, and its body is empty.
 
-pub mod laws;
 pub mod worked;

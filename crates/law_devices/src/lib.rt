@@ -7,7 +7,7 @@
 //! - `declared_controls`: Of each script that a text spells, what its control endpoints have: each high-speed one of a device that is opened is on the bus of
 //!   the script, freshly opened, with the replies of its lines; endpoints have the numbers of their transfer types, so nothing is sent or taken at number 0;
 //!   and each request is whole.
-//! - `declared_takers`: Of each script that a text spells, each high-speed bulk OUT endpoint that is opened has its taker on the bus of the script.
+//! - `declared_takers`: The takers of the endpoints that a script opens, worked.
 //! - `opening_senders`: What the senders of a script have at the opening (USB 2.0, 8.6): each has all the packets that the script has for the endpoint of its
 //!   name.
 //! - `request_calls`: One transaction of a queue head that works on a stage of a control request (EHCI 1.0, 3.6 and 4.10; USB 2.0, 8.5.3): over any bus whose

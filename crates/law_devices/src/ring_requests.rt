@@ -19,6 +19,5 @@ pub use laws::{
     windows_are_those_of_a_run,
 };
 pub use rest_laws::{
-    a_queue_at_rest_is_spared, a_queue_at_rest_stays_so, a_queue_comes_to_rest,
-    others_go_on_beside_a_rest, queue_grows,
+    a_queue_at_rest_is_spared, a_queue_at_rest_stays_so, a_queue_comes_to_rest, queue_grows,
 };

@@ -13,4 +13,3 @@ pub mod RestingEnded
 pub mod RestingGrows
 pub mod RestingSpared
 pub mod RestingSampled
-pub mod RestingAmong

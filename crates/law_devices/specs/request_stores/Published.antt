@@ -10,29 +10,21 @@
 --     IsPublished ..             all stands as it must with it, and no other request is changed
 --     LendKeepsWindows, IdleStoreKeepsWindows, LastStoreKeepsWindows
 --                                the laws
---     IsFirstRequest ..          the endpoint of n had no request
---     windows_with, first_sent, first_lines
---                                all queues and windows, with those of n
---     IsBegun ..                 all stands as it must with them
---     FirstStoreOpensWindows     the law
-use Rattle.std.specs.Prelude.{◌≡◌, ◌≢◌, ℕ, suc, ◌-◌, ◌<◌, ◌≤◌, ◌==◌, ◌||◌, ◌⊎◌, Bool, true, false, Option, Some, None, if◌then◌else◌}
+use Rattle.std.specs.Prelude.{◌≡◌, ◌≢◌, ℕ, suc, ◌-◌, ◌<◌, ◌==◌, ◌⊎◌, Bool, true, false, Option, Some, None, if◌then◌else◌}
 use Rattle.link_words.specs.declared.kinds.QtdLink.TheVariants.{To}
 use Rattle.link_words.specs.Links.{qtd_link_of}
 use Rattle.qh_qtd.specs.declared.qtd.Qtd.{Qtd}
 use Rattle.qh_qtd.specs.declared.queue_head.Qh.{Qh}
 use Rattle.law_structures.specs.lent_structures.Structures.{Structure, QueueHead, Element, Structures, StructureSets, put}
 use Rattle.law_structures.specs.lent_structures.Sound.{buffer_name, HasBuffer}
-use Rattle.dev_control.specs.Stages.{Stages}
 use Rattle.claims_report.specs.Requests.{Request}
 use Rattle.law_request.specs.Host.{Stage, Setup, has_data}
 use Rattle.law_request.specs.Windows.{IsRequest}
 use Rattle.claims_report.specs.ControlSides.{Device}
-use Rattle.law_devices.specs.request_calls.Bus.{device_of}
 use Rattle.law_ring.specs.Hand.{Hand}
-use Rattle.law_ring.specs.Told.{HasEndpoint, Endpoint as Characteristics}
 use Rattle.law_devices.specs.ring_requests.Laid.{Places, place_at, AreApart, AreOthers, IsIdle}
 use Rattle.law_devices.specs.ring_requests.Shown.{pointer_at, AreFresh}
-use Rattle.law_devices.specs.ring_requests.Windows.{Sent, Queue, sent_at, Lines, lines_at, IsBehind, AreLaid, AreSent, AreWindows}
+use Rattle.law_devices.specs.ring_requests.Windows.{Sent, Queue, sent_at, Lines, IsBehind, AreSent, AreWindows}
 
 -- ---- structures are lent
 
@@ -106,38 +98,3 @@ LastStoreKeepsWindows {W} device = (member windows : ℕ → Bool) (sent : ℕ �
     (hand : Hand) (wire : W) (n : ℕ) (r : Request) (x : Places) (new : Qtd)
     → AreSent member windows sent → windows n ≡ true → IsNextRequest (sent n) r x (put parts n x.setup (Element new) n)
     → AreWindows device member windows sent lines parts hand wire → IsPublished device member windows sent lines (put parts n x.setup (Element new)) hand wire n r x
-
--- ---- the first request of an endpoint
-
--- the endpoint of n had no request, and is no other queue head's
-pub record IsFirstRequest (member windows : ℕ → Bool) (parts : StructureSets) (n : ℕ) (v : Queue) : Type 0 where
-  pub member_is : member n ≡ true
-  pub none : windows n ≡ false
-  pub one : v.count ≡ 1
-  pub whole : 8 ≤ v.endpoint.max
-  pub request : IsRequest (v.requests 0)
-  pub apart : AreApart (v.places 0)
-  pub other : (k : ℕ) (own : Characteristics) → k ≢ n → member k ≡ true → HasEndpoint parts k own → v.endpoint.addr ≡ own.addr → v.endpoint.num ≡ own.ep → ⊥
-
-abbrev pub windows_with : (ℕ → Bool) → ℕ → ℕ → Bool
-windows_with windows n k = (k == n) || windows k
-
-abbrev pub first_sent : (ℕ → Queue) → ℕ → Queue → ℕ → Queue
-first_sent sent n v k = if k == n then v else sent k
-
-abbrev pub first_lines : (ℕ → Lines) → ℕ → Lines → ℕ → Lines
-first_lines lines n l k = if k == n then l else lines k
-
-pub record IsBegun {W : Type 0} (device : W → ℕ → ℕ → Option Device) (member windows : ℕ → Bool) (sent : ℕ → Queue) (lines : ℕ → Lines)
-    (now : StructureSets) (hand : Hand) (wire : W) (n : ℕ) (v : Queue) (l : Lines) : Type 0 where
-  pub sent_are : AreSent member (windows_with windows n) (first_sent sent n v)
-  pub windows_are : AreWindows device member (windows_with windows n) (first_sent sent n v) (first_lines lines n l) now hand wire
-
--- the store by which it is laid out, where the queue head waits at it: the device is as it was left
-abbrev pub FirstStoreOpensWindows : {W : Type 0} → (W → ℕ → ℕ → Option Device) → Type 0
-FirstStoreOpensWindows {W} device = (member windows : ℕ → Bool) (sent : ℕ → Queue) (lines : ℕ → Lines) (parts : StructureSets)
-    (hand : Hand) (wire : W) (n a : ℕ) (old new : Qtd) (v : Queue) (q : Qh) (c : Stages)
-    → parts n a ≡ Some (Element old) → AreSent member windows sent → IsFirstRequest member windows parts n v → AreLaid v hand (put parts n a (Element new)) n q
-    → c.max ≡ v.endpoint.max → device wire v.endpoint.addr v.endpoint.num ≡ Some (device_of v.endpoint c)
-    → AreWindows device member windows sent lines parts hand wire
-    → IsBegun device member windows sent lines (put parts n a (Element new)) hand wire n v (lines_at v q.token.ping c)

@@ -18,11 +18,7 @@
 --                                the laws of what is written beside it, and so of a store, a lend, structures that are given back, a link that is
 --                                stored, and another queue head that is mended
 --     MendedRests                the law where the queue head itself is mended
---     AskingIsAlone              the law: no other queue head has the endpoint of a queue that asks
---     windows_but windows n      the endpoints that ask, but for that of n
---     AreWithout ..              all these stand as they must
---     RestLeavesWindows          the law
-use Rattle.std.specs.Prelude.{◌≡◌, ◌≢◌, ◌==◌, ℕ, suc, Bool, true, false, List, Option, Some, if◌then◌else◌}
+use Rattle.std.specs.Prelude.{◌≡◌, ◌≢◌, ℕ, suc, Bool, true, false, List, Option, Some}
 use Rattle.usb_base.specs.declared.packets.Ask.{Ask}
 use Rattle.usb_base.specs.declared.packets.Reply.{Reply}
 use Rattle.link_words.specs.declared.fields.LinkBits.{LinkBits}
@@ -51,7 +47,7 @@ use Rattle.law_ring.specs.Front.{SameRest}
 use Rattle.law_ring.specs.Told.{HasEndpoint, endpoint_of, Endpoint as Characteristics}
 use Rattle.law_devices.specs.ring_requests.Laid.{IsIdle}
 use Rattle.law_devices.specs.ring_requests.Shown.{hand_side, AreFresh}
-use Rattle.law_devices.specs.ring_requests.Windows.{Queue, sent_at, Lines, lines_at, HasEnded, IsActedOnce, IsQueue, AreLaid, AreSent, AreWindows}
+use Rattle.law_devices.specs.ring_requests.Windows.{Queue, sent_at, Lines, lines_at, HasEnded, IsActedOnce, IsQueue, AreLaid}
 
 pub record IsAtRest (e : Endpoint) (c : Stages) (b : ℕ) (hand : Hand) (parts : StructureSets) (n : ℕ) (o : Option Device) : Type 0 where
   pub queue : Qh
@@ -196,22 +192,3 @@ abbrev pub MendedRests : Type 0
 MendedRests = (member : ℕ → Bool) (e : Endpoint) (c : Stages) (b d n : ℕ) (hand : Hand) (reply : Reply) (parts : StructureSets) (o : Option Device) (new : Qh) → IsInHand member parts reply hand
     → IsAlone member e parts n → (k : IsAtRest e c b hand parts n o) → endpoint_of new ≡ endpoint_of k.queue → new.token.active ≡ false
     → (new.token.halted ≡ false → qtd_link_of (next_pointer new) ≡ To d) → IsIdle (parts n) d → RestIsSame member e c d (hand_stale n hand) (put parts n n (QueueHead new)) n o
-
--- ---- among the endpoints that ask
-
-abbrev pub AskingIsAlone : {W : Type 0} → (W → ℕ → ℕ → Option Device) → Type 0
-AskingIsAlone {W} device = (member windows : ℕ → Bool) (sent : ℕ → Queue) (lines : ℕ → Lines) (parts : StructureSets) (hand : Hand) (wire : W) (n : ℕ) → AreSent member windows sent
-    → AreWindows device member windows sent lines parts hand wire → windows n ≡ true → IsAlone member (sent n).endpoint parts n
-
-abbrev pub windows_but : (ℕ → Bool) → ℕ → ℕ → Bool
-windows_but windows n k = if k == n then false else windows k
-
--- all others stand as they did
-pub record AreWithout {W : Type 0} (device : W → ℕ → ℕ → Option Device) (member windows : ℕ → Bool) (sent : ℕ → Queue) (lines : ℕ → Lines) (parts : StructureSets) (hand : Hand) (wire : W)
-    (n : ℕ) : Type 0 where
-  pub sent_are : AreSent member (windows_but windows n) sent
-  pub windows_are : AreWindows device member (windows_but windows n) sent lines parts hand wire
-
-abbrev pub RestLeavesWindows : {W : Type 0} → (W → ℕ → ℕ → Option Device) → Type 0
-RestLeavesWindows {W} device = (member windows : ℕ → Bool) (sent : ℕ → Queue) (lines : ℕ → Lines) (parts : StructureSets) (hand : Hand) (wire : W) (n : ℕ) → AreSent member windows sent
-    → AreWindows device member windows sent lines parts hand wire → windows n ≡ true → AreWithout device member windows sent lines parts hand wire n

@@ -5,12 +5,10 @@ ghost use Rattle.law_devices.specs.Senders.{sender_of};
 ghost use Rattle.law_devices.specs.scripted_takers.Takers.{taker_of};
 ghost use Rattle.law_devices.specs.DeclaredEndpoints.{OpensSenders};
 ghost use Rattle.law_devices.specs.declared_takers.Samples.{both_ways};
-ghost use Rattle.law_devices.specs.declared_takers.Declared.{OpensTakers};
 
 /// The taker of the OUT endpoint, and the sender of the IN endpoint of its number.
 pub fn opened_taker()
     ensures taker { taker_of (opening_wired both_ways) 3 2 ≡ Some (record { taken = []; expects = false }) }
-    ensures opens { OpensTakers both_ways }
     ensures sender { sender_of (opening_wired both_ways) 3 2 ≡ Some (record { left = (7 ∷ 9 ∷ []) ∷ []; sends = false }) }
     ensures senders { OpensSenders both_ways }
     ensures no_out { taker_of (opening_wired both_ways) 3 1 ≡ None }

@@ -1,7 +1,7 @@
 //! A queue while no request is under way.
 ghost use Rattle.std.specs.Prelude.{ℕ, Option};
 ghost use Rattle.claims_report.specs.ControlSides.{Device};
-ghost use Rattle.law_devices.specs.ring_requests.Resting.{EffectKeepsRest, DoneRests, HaltRests, QueueGrows, AskingIsAlone, RestLeavesWindows, RestIsSpared, AloneIsSpared, StoreSparesRest, LendSparesRest, ReleaseSparesRest, LinkSparesRest, MendSparesRest, MendedRests};
+ghost use Rattle.law_devices.specs.ring_requests.Resting.{EffectKeepsRest, DoneRests, HaltRests, QueueGrows, RestIsSpared, AloneIsSpared, StoreSparesRest, LendSparesRest, ReleaseSparesRest, LinkSparesRest, MendSparesRest, MendedRests};
 
 use usb_base::Wire;
 
@@ -35,10 +35,4 @@ pub fn a_queue_at_rest_is_spared()
     ensures link { LinkSparesRest }
     ensures mend { MendSparesRest }
     ensures mended { MendedRests }
-{}
-
-/// No other queue head has the endpoint of a queue that asks; and without it, as where it came to rest, all others stand as they did.
-pub fn others_go_on_beside_a_rest<W: Wire>()
-    ensures alone { (device : W → ℕ → ℕ → Option Device) → AskingIsAlone device }
-    ensures without { (device : W → ℕ → ℕ → Option Device) → RestLeavesWindows device }
 {}

@@ -7,7 +7,6 @@ use Rattle.qh_qtd.specs.declared.qtd.Qtd.{Qtd}
 use Rattle.qh_qtd.specs.declared.queue_head.Qh.{Qh}
 use Rattle.law_structures.specs.lent_structures.Structures.{Element, Structures, StructureSets, put}
 use Rattle.law_structures.specs.lent_structures.Sound.{HasBuffer}
-use Rattle.dev_control.specs.Stages.{Stages}
 use Rattle.claims_report.specs.Requests.{Request}
 use Rattle.law_request.specs.Host.{Endpoint, Setup, Data}
 use Rattle.law_request.specs.Windows.{IsRequest}
@@ -18,8 +17,6 @@ use Rattle.law_ring.specs.Told.{works_on, told_bytes, settled_bytes, hand_bytes}
 use Rattle.law_ring.proofs.Growing.{works_not}
 use Rattle.law_devices.specs.ring_requests.Laid.{Places, IsPlace, AreApart, AreOthers, IsIdle, IsFresh}
 use Rattle.law_devices.specs.ring_requests.Windows.{Sent, Queue, sent_at, Lines, IsWindow, IsFinished, IsBehind, IsQueue, AreChained, AreSent, IsElsewhere, AreWindows}
-use Rattle.law_devices.specs.ring_requests.Runs.{IsRun}
-use Rattle.law_devices.proofs.lemmas.ring_requests.Runs.{first_same}
 use Rattle.law_devices.specs.request_stores.Published.{IsNextRequest, with_request, new_sent, sent_with, IsPublished, LastStoreKeepsWindows}
 use Rattle.law_devices.proofs.lemmas.request_stores.Keeping.{Keeps, window_kept, finished_kept, one_behind_kept}
 use Rattle.law_devices.proofs.lemmas.request_stores.Storing.{store_keeps, store_head, store_beside, elsewhere_still, queue_beside}
@@ -234,15 +231,3 @@ module _ {W : Type 0} (device : W → ℕ → ℕ → Option Device) (member win
 
 pub last_windows : {W : Type 0} (device : W → ℕ → ℕ → Option Device) → LastStoreKeepsWindows device
 last_windows device member windows sent lines parts hand wire n r x new fixed on next all = is_published device member windows sent lines parts hand wire n r x new fixed on next all
-
--- ---- its run
-
-pub the_run_goes_on : (v : Queue) (r : Request) (x : Places) (c : Stages) (l : Lines) → l.under < v.count → IsRun v c l → IsRun (with_request v r x) c l
-the_run_goes_on v r x c l few k = record {
-  earlier = k.earlier;
-  last = k.last;
-  requests = k.requests ∙ first_same v.requests (with_request v r x).requests l.under (λ i less. ap (λ (s : Sent). s.request) (sym (with_old v r x i (omega (arith, few, less)))));
-  request = k.request ∙ ap (λ (s : Sent). s.request) (sym (with_old v r x l.under few));
-  lines = k.lines;
-  line = k.line;
-}
