@@ -16,7 +16,7 @@ pub mod ring_links;
 mod row_laws;
 
 pub use command_laws::numbers_go_on_fitting;
-pub use laws::{controller_keeps_framed, new_is_framed, quiet_keeps_framed};
+pub use laws::{controller_keeps_framed, new_is_framed};
 pub use lend_laws::{
     descriptors_await_their_lend, lend_keeps_now, new_awaits_nothing, placements_have_small_masks,
 };

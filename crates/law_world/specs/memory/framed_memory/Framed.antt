@@ -4,9 +4,8 @@
 --                             told by exactly the structures that the driver has lent, of its queues by `parts` and of its descriptors by `descs`
 --     FramedAfter ..          an event of the controller, and the same after it, with what the structures became then
 --     ControllerKeepsFramed ..      the law
---     QuietKeepsFramed        an event of the driver that stores no word keeps it, with the same structures and the same in both hands
 --     NewIsFramed             a driver that was just built and a new controller are so
-use Rattle.std.specs.Prelude.{◌≡◌, ℕ, ◌%◌, ◌≤◌, Bool, true, List, Option, None}
+use Rattle.std.specs.Prelude.{◌≡◌, ℕ, ◌%◌, ◌≤◌, Bool, List, Option, None}
 use Rattle.usb_base.specs.declared.packets.Ask.{Ask}
 use Rattle.usb_base.specs.declared.packets.Reply.{Reply}
 use Rattle.hc_core.specs.Controller.{Content, content, new_control, microframe_row, HasRow}
@@ -14,19 +13,16 @@ use Rattle.law_controller.specs.aligned_copies.Aligned.{AreAligned}
 use Rattle.drv_table.specs.declared.content.Reserve.{Reserve}
 use Rattle.drv_table.specs.DriverContent.{DriverContent}
 use Rattle.drv_table.specs.Opening.{opening}
-use Rattle.drv_table.specs.Rows.{driver_row}
 use Rattle.claims_driver.specs.Owners.{views_of}
 use Rattle.law_structures.specs.lent_structures.Structures.{StructureSets}
 use Rattle.law_ring.specs.Hand.{Hand, Empty}
 use Rattle.claims_base.specs.Controller.{Base, opening_base}
 use Rattle.law_ring.specs.Effects.{AreBytesHeard}
 use Rattle.law_driver_ring.specs.Inventory.{sorts_of, IsDriven}
-use Rattle.law_driver_ring.specs.Driven.{IsOperating, is_quiet}
+use Rattle.law_driver_ring.specs.Driven.{IsOperating}
 use Rattle.law_driver_ring.specs.PartOpened.{no_parts, opening_parts, is_head}
 use Rattle.law_driver_ring.specs.Extents.{AreInRuns}
 use Rattle.law_driver.specs.in_place.InPlace.{IsInPlace}
-use Rattle.law_queues.specs.shared_memory.Shared.{parts_of, next_parts, after_driver}
-use Rattle.law_driver.specs.iso_frames.Frames.{AreInFrames}
 use Rattle.law_frame_list.specs.list_driver.Keeping.{KeepsItsList}
 use Rattle.law_frames.specs.Met.{Kind}
 use Rattle.law_frames.specs.FrameHand.{FrameHand, Nothing}
@@ -57,13 +53,6 @@ ControllerKeepsFramed {W} begins transacts = (base : Base) (member : ℕ → Boo
     (d : DriverContent) (wire : W) (new : Content) (after : W) → IsFramed base member met descs parts hand frame c d
     → AreBytesHeard transacts wire after → HasRow begins transacts (microframe_row c.registers c.control) c wire new after
     → FramedAfter begins transacts base member met descs parts hand frame c d wire after new
-
--- ---- a quiet event of the driver
-
-abbrev pub QuietKeepsFramed : Type 0
-QuietKeepsFramed = (base : Base) (member : ℕ → Bool) (met : ℕ → Option Kind) (descs parts : StructureSets) (hand : Hand) (frame : FrameHand) (c : Content) (d : DriverContent)
-    → IsFramed base member met descs parts hand frame c d → AreInFrames d → is_quiet (driver_row (parts_of c d)) ≡ true
-    → IsFramed base member met descs parts hand frame (after_driver c d) (next_parts c d).driver
 
 -- ---- the opening
 

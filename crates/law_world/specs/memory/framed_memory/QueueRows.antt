@@ -7,7 +7,6 @@
 --     LendOpenKeepsNow        the queue head of a new endpoint, with the inactive qTD at the end of its queue, is lent: nothing leads to it yet
 --     LendTransferKeepsNow    the qTDs of a transfer, with their buffers, are lent: nothing leads to them yet
 --     PublishKeepsNow         a word of a qTD that is published is stored, also in a queue that the walk of the frames may meet
---     MendKeepsNow            the next store is made that takes a control endpoint's queue head of the ring out of its halt, which the frames never meet
 --     ReleaseTransferKeepsNow the qTDs and buffers of a transfer that was harvested are given back, where nothing that stays leads to them or needs them
 use Rattle.std.specs.Prelude.{◌≡◌, slice_index, length, ℕ, suc, ◌*◌, ◌<◌, List, Bool, true, Option, Some, Ok}
 use Rattle.usb_base.specs.declared.commands.Cmd.{Cmd}
@@ -51,7 +50,6 @@ use Rattle.law_frames.specs.Met.{Kind, AQueue}
 use Rattle.law_frames.specs.FrameHand.{FrameHand}
 use Rattle.law_descriptors.specs.Told.{with_memory}
 use Rattle.law_descriptors.specs.Meeting.{met}
-use Rattle.law_queues.specs.mended_heads.Mended.{IsAtMend, parts_then, hand_then}
 use Rattle.law_world.specs.memory.framed_memory.Now.{IsFramedNow, FramedNext}
 
 abbrev pub chained_runs : DriverContent → EpDesc → Placement → Holding → EndpointRuns
@@ -117,9 +115,3 @@ ReleaseTransferKeepsNow = (base : Base) (member : ℕ → Bool) (recent : ℕ �
     → (member (32 * x.queue) ≡ true → (q : Qh) → parts (32 * x.queue) (32 * x.queue) ≡ Some (QueueHead q) → MayGo (goes_of d y) (32 * x.queue) (parts (32 * x.queue)) q)
     → (met d recent (32 * x.queue) ≡ Some AQueue → (q : Qh) → parts (32 * x.queue) (32 * x.queue) ≡ Some (QueueHead q) → MayGo (goes_of d y) (32 * x.queue) (parts (32 * x.queue)) q)
     → FramedNext base member recent descs (without_those parts (32 * x.queue) (goes_of d y)) hand frame c d
-
--- `out` has the qTDs of each queue
-abbrev pub MendKeepsNow : Type 0
-MendKeepsNow = (base : Base) (member : ℕ → Bool) (recent : ℕ → Option Kind) (descs parts : StructureSets) (hand : Hand) (frame : FrameHand) (c : Content) (d : DriverContent)
-    (out : ℕ → List ℕ) → IsFramedNow base member recent descs parts hand frame c d → (k : IsAtMend (parts_of c d) parts out) → member (32 * k.stalled.queue) ≡ true
-    → FramedNext base member recent descs (parts_then k) (hand_then k hand) frame c d

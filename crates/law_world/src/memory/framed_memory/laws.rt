@@ -1,4 +1,4 @@
-ghost use Rattle.law_world.specs.memory.framed_memory.Framed.{ControllerKeepsFramed, QuietKeepsFramed, NewIsFramed};
+ghost use Rattle.law_world.specs.memory.framed_memory.Framed.{ControllerKeepsFramed, NewIsFramed};
 
 use usb_base::Wire;
 
@@ -10,9 +10,4 @@ pub fn new_is_framed()
 /// Each event of the controller keeps all of it, with the structures and what is in hand that there are then.
 pub fn controller_keeps_framed<W: Wire>()
     ensures { ControllerKeepsFramed W.begins W.transacts }
-{}
-
-/// And an event of the driver that stores no word keeps it.
-pub fn quiet_keeps_framed()
-    ensures { QuietKeepsFramed }
 {}

@@ -1,5 +1,5 @@
 //! The laws of the rows.
-ghost use Rattle.law_world.specs.memory.framed_memory.QueueRows.{CancelKeepsNow, ChainIsReady, LendOpenKeepsNow, LendTransferKeepsNow, MendKeepsNow, OpenKeepsNow, PublishKeepsNow, ReleaseTransferKeepsNow, TransferKeepsNow, UnchainKeepsNow};
+ghost use Rattle.law_world.specs.memory.framed_memory.QueueRows.{CancelKeepsNow, ChainIsReady, LendOpenKeepsNow, LendTransferKeepsNow, OpenKeepsNow, PublishKeepsNow, ReleaseTransferKeepsNow, TransferKeepsNow, UnchainKeepsNow};
 ghost use Rattle.law_world.specs.memory.framed_memory.Chained.{AcceptedChainStands, ChainBecomesReady, ChainComesFirst, ChainGoesOnNow, ChainKeepsNow, ChainLends, ChainLinksOn, ChainReadyStays, ChainStandsBeside, ChainStaysLent, ChainedHeadIsInRange, NewChainStands, OtherChainStands};
 
 use usb_base::Wire;
@@ -31,12 +31,6 @@ pub fn release_transfer_keeps_now()
 /// the queue head, and nothing leads to them yet.
 pub fn lend_transfer_keeps_now()
     ensures { LendTransferKeepsNow }
-{}
-
-/// Each of the three stores that a control endpoint is owed after a STALL, and takes its queue head out of the halt (3.6.3, 4.10): the queue head is one of the ring, so the
-/// walk of the frames doesn't meet it, and all is framed with it as it is then.
-pub fn mend_keeps_now()
-    ensures { MendKeepsNow }
 {}
 
 /// An open of an endpoint of the ring, or a get, put or request of any endpoint with a queue, is accepted (4.8, 4.10): what it takes is written in runs that the driver

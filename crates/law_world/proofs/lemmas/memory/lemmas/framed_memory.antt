@@ -1,5 +1,4 @@
 pub mod Framing
-pub mod Quiet
 pub mod Opening
 pub mod Now
 pub mod Index
@@ -25,7 +24,6 @@ pub mod Publishing
 pub mod Releasing
 pub mod LentExtents
 pub mod TransferLends
-pub mod Mending
 pub mod Chains
 pub mod QueueAccepting
 pub mod Chained
