@@ -7,16 +7,16 @@
 --     TellsStreams s r           of each such endpoint that was opened the bytes told begin its stream, each once and in order, up to the
 --                                line of its end, and nothing follows that; those told of an OUT endpoint begin what its device took
 --     PrintsStreams s            so it is of the report that is printed after the run
---     ActsOnRequests s           after the run, of each control endpoint at high speed of a device that is no hub, unless it was cancelled:
---                                in the window of each of its requests the device acted at most once, and on nothing but the setup bytes;
---                                of one that is told done exactly once, with all its data; one that halted tells a beginning of them
+--     ActsOnRequests s           after the run, of each control endpoint at high speed of a device that is no hub: in the window of each of
+--                                its requests the device acted at most once, and on nothing but the setup bytes; of one that is told done
+--                                exactly once, with all its data; one that halted tells a beginning of them, and so does a cancel's line
 --     DoesWhatIsDue s            what is due as a microframe begins is done in it
 --     TouchesNoneReleased s      each word that the controller reads or writes is of a Lent block; what was linked is given back after the
 --                                advance interrupt (4.8.2), or after a frame boundary that two readings of FRINDEX showed (4.6); and what
 --                                was given back the controller leaves alone until it is lent again
 --     KeepsHeadline s            all of this, and its budgets: a periodic endpoint is admitted exactly where some placement keeps each
 use Rattle.std.specs.List.{AllByRecursion}
-use Rattle.std.specs.Prelude.{◌≡◌, ℕ, true, false, []}
+use Rattle.std.specs.Prelude.{◌≡◌, ℕ, true, []}
 use Rattle.usb_base.specs.declared.endpoints.EpDesc.{EpDesc}
 use Rattle.script_types.specs.declared.scripts.Script.{Script}
 use Rattle.drv_table.specs.declared.content.Endpoint.{Endpoint}
@@ -59,7 +59,7 @@ pub record PrintsStreams (s : Script) : Type 0 where
 -- ---- the requests are right
 
 abbrev pub ActsOnRequests : Script → Type 0
-ActsOnRequests s = (k e : ℕ) (x : Endpoint) → (moment s k).orders ≡ [] → IsOfDevice s k e x → x.cancelled ≡ false
+ActsOnRequests s = (k e : ℕ) (x : Endpoint) → (moment s k).orders ≡ [] → IsOfDevice s k e x
     → AreRightRequests s (report_at s k) x.desc.name (windows_then s k e)
 
 -- ---- what is due is done

@@ -149,6 +149,8 @@ use usb_base::{Sink, Source};
 /// stream, each once and in order, and nothing follows its end; those that it tells of each such OUT endpoint begin what its device took,
 /// and these begin what was put to it: after the run, and at each moment of it, when the puts are those that weren't refused so far;
 /// whatever is lost, damaged or held, and whatever else is asked and answers. After the run these are all its streams at high speed.
+/// At each moment the host has accepted the packets that such an IN endpoint's device knows to be accepted, or one more, with the toggle
+/// that belongs to it.
 /// The same holds of the bytes of each bulk and interrupt OUT endpoint behind a hub of the script, whatever is asked of the hub; but its
 /// device may take more behind the line that tells its end.
 /// The bytes that the report tells of each bulk IN endpoint behind a hub of the script begin its stream, too, and nothing follows its end,
@@ -159,11 +161,13 @@ use usb_base::{Sink, Source};
 /// pending then, at each moment and after the run. No line tells a missed microframe of an endpoint at high speed.
 /// Where no `fate` loses or damages a packet between the controller and a hub or a device at high speed, and no interrupt endpoint at high
 /// speed answers with NYET, no line tells `halt error` of an endpoint at high speed, whatever the script holds, cancels and asks of hubs.
+/// Where besides no request to a hub clears a buffer or resets a translator, none is of a bulk or control endpoint.
 ///
 /// Whatever the script opens, at each moment each device but a hub acted at most once on each request of its control endpoint at high
-/// speed, and only on its setup bytes; of an endpoint that isn't cancelled the report tells of its requests in their order: a request that
-/// is done was acted on exactly once, and the bytes told of it are those of its data; those of one that halted begin its data; and `acted`
-/// is told as the number of requests that were acted on. After the run these are all its requests.
+/// speed, and only on its setup bytes; the report tells of its requests in their order: a request that is done was acted on exactly once,
+/// and the bytes told of it are those of its data; those of one that halted begin its data; the line of a cancel tells beginnings of the
+/// data of the requests left, joined; and `acted` is told as the number of requests that were acted on. After the run these are all its
+/// requests.
 ///
 /// Each command of a script is refused for the first cause that stands, of busy, no endpoint, closed, already open, too long, no
 /// placement and no blocks, and its line tells this one; where none stands it is accepted, and adds what it asks for: an endpoint, a
