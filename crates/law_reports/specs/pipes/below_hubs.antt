@@ -6,4 +6,5 @@ pub mod BelowLaws
 pub mod Samples
 pub mod Inward
 pub mod InwardLaws
+pub mod Late
 pub mod DeafLaws

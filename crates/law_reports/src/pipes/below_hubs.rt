@@ -27,8 +27,10 @@ ghost use Rattle.law_reports.specs.pipes.below_hubs.InwardLaws.{
   TextsAreInward,
   TextsKeepInsBelow,
   TextsKeepTimelyIns,
+  TextsKeepIns,
   TextsHaveResults,
 };
+ghost use Rattle.law_reports.specs.pipes.below_hubs.Late.{TextsMissLate};
 ghost use Rattle.law_reports.specs.pipes.below_hubs.DeafLaws.{UnopenedHubsAreSpared};
 ghost use Rattle.law_reports.specs.pipes.below_hubs.BelowLaws.{TextsKeepBelowStreams, TextsKeepStreams};
 
@@ -89,12 +91,15 @@ pub fn an_event_keeps_ins_below()
 {}
 
 /// So it stands at each moment of each script before which its hub was spared, and no last complete-split of an interrupt endpoint came
-/// too late, whatever endpoints the script opens; and so what is told of it begins its device's stream.
+/// too late, whatever endpoints the script opens; and so what is told of it begins its device's stream. None comes too late: a host that
+/// waits while a frame begins finds the miss in microframe 0 of the next frame that has it.
 pub fn each_moment_has_ins_below()
     ensures opening { TextsOpenInlets }
     ensures standing { TextsAreInward }
     ensures streams { TextsKeepInsBelow }
     ensures timely { TextsKeepTimelyIns }
+    ensures missed { TextsMissLate }
+    ensures always { TextsKeepIns }
 {}
 
 /// Where the walk of the frames comes to the last complete-split of a frame, of an interrupt IN endpoint, the result of what the hub's

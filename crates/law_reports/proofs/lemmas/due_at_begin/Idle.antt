@@ -193,3 +193,37 @@ chain_goes w k command v chain work =
     (chain_row_is (nat_le 1 d.made) (next_store d.periodic.list) d.made) in
     let h : HasSame w.driver v = row_goes (driver_row (driver_parts w)) (driver_parts w) is command under.1 v chain work in
     (h.work, (h.is, h.member))
+
+-- .. and takes no endpoint in, nor lets one go
+module _ (d : DriverContent) (command : d.command ≡ Some unfinished.Chain) where
+  abbrev chain_started : PeriodicContent
+  chain_started = record d.periodic { list = list_after d unfinished.Chain }
+
+  abbrev chain_left : DriverContent
+  chain_left = record d { made = 1; periodic = begun_next false chain_started }
+
+  end_ends : (b : Bool) → (cond b (no_command chain_left) chain_left).endpoints ≡ d.endpoints
+  end_ends true = refl
+  end_ends false = refl
+
+  made_ends : (b : Bool) → (cond b (record d { made = suc d.made }) (linked_on d unfinished.Chain)).endpoints ≡ d.endpoints
+  made_ends true = refl
+  made_ends false = end_ends (is_none (begun_next false chain_started).list.work)
+
+  advance_ends : (advance d).endpoints ≡ d.endpoints
+  advance_ends =
+      subst (λ (o : Option Command). (advanced_by d o).endpoints ≡ d.endpoints) (sym command) (made_ends (nat_lt (suc d.made) 1))
+
+row_ends_stay : (r : DriverRow) (parts : Parts) → IsChainRow r → parts.driver.command ≡ Some unfinished.Chain
+    → (after_driver_row r parts).driver.endpoints ≡ parts.driver.endpoints
+row_ends_stay rows.Lend parts is command = advance_ends (record parts.driver { book = _ }) command
+row_ends_stay (rows.Store b at v) parts is command = advance_ends parts.driver command
+row_ends_stay rows.Rest parts is command = refl
+row_ends_stay _ parts is command = absurd is
+
+pub chain_keeps_ends : (w : World) → w.driver.command ≡ Some unfinished.Chain → (driver_next w).driver.endpoints ≡ w.driver.endpoints
+chain_keeps_ends w command =
+    let is : IsChainRow (driver_row (driver_parts w)) =
+    subst (λ (o : Option Command). IsChainRow (row_for (driver_parts w) o)) (sym command)
+    (chain_row_is (nat_le 1 w.driver.made) (next_store w.driver.periodic.list) w.driver.made) in
+    row_ends_stay (driver_row (driver_parts w)) (driver_parts w) is command

@@ -116,10 +116,8 @@ module _ (fixed : Fixed) (x : Sides) (s : Standing) (m : Lines) (h : Heads) (w :
       (row_named (controller_row w) refl (world_has_row fixed w))
 
   effect_of : {now : StructureSets} {later : Hand} {frame_later : FrameHand}
-      → BothEffect Begins transacts_by (both s.descs s.parts) w.control s.hand s.frame (wired fixed w)
-      (wired fixed (controller_next fixed w)) now later frame_later
-      → BothEffect begins_by transacts_by (both s.descs s.parts) w.control s.hand s.frame (wired fixed w)
-      (wired fixed (controller_next fixed w)) now later frame_later
+      → BothEffect Begins transacts_by (both s.descs s.parts) w.control s.hand s.frame (wired fixed w) (wired fixed (controller_next fixed w)) now later frame_later
+      → BothEffect begins_by transacts_by (both s.descs s.parts) w.control s.hand s.frame (wired fixed w) (wired fixed (controller_next fixed w)) now later frame_later
   effect_of (of_ring (a_microframe b) nothing) =
       of_ring (a_microframe (record {
         index = b.index;

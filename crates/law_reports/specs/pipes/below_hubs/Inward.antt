@@ -11,7 +11,7 @@
 --     IsInward fixed v timely s m w    all this of the world w; `timely` tells by the queue head whether the host of an interrupt endpoint
 --                           is in time: no frame began while it waited
 --     HasInward fixed x o v timely puts w     .. for some standing, lines and queue heads, beside the OUT endpoints below hubs
---     may_be_late hand n p  the host of the queue head at n waits, and hasn't halted
+--     may_be_late hand n p  the host of the queue head at n, which isn't at high speed, waits, and hasn't halted
 --     renewed s timely      in time is each host that doesn't wait, or has halted
 --     is_frame_begun z, still_timely z timely     an event of the controller begins a frame; who is in time still
 use Rattle.std.specs.Prelude.{◌≡◌, ℕ, ◌*◌, ◌%◌, ◌==◌, ◌&&◌, ◌||◌, not, Bool, true, false, List, [], slice_get, Option, Some}
@@ -113,7 +113,7 @@ abbrev pub is_late_host : HostSide → Bool
 is_late_host host = host.active && (host.waiting && not host.halted)
 
 abbrev pub may_be_late : Hand → ℕ → Option Structure → Bool
-may_be_late hand n (Some (QueueHead q)) = is_late_host (hand_host hand n q)
+may_be_late hand n (Some (QueueHead q)) = not (q.eps == 2) && is_late_host (hand_host hand n q)
 may_be_late hand n _ = false
 
 abbrev pub renewed : Standing → (ℕ → Bool) → ℕ → Bool

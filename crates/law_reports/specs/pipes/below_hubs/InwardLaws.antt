@@ -22,6 +22,7 @@
 --     TextsAreInward           so it is at each moment before which its hub was spared and it completed in time
 --     TextsKeepInsBelow        so the stream of a bulk endpoint is right there
 --     TextsKeepTimelyIns       .. and that of any, at each moment before which its last complete-splits came in time
+--     TextsKeepIns             they always do, so that of any is right where its hub was spared
 use Rattle.std.specs.Prelude.{◌≡◌, ℕ, suc, ◌==◌, ◌%◌, ◌<◌, ◌&&◌, Bool, true, false, List, Some, None}
 use Rattle.std.specs.List.{AllByRecursion}
 use Rattle.usb_base.specs.declared.commands.Cmd.{Cmd}
@@ -195,4 +196,9 @@ TextsKeepInsBelow = (text : List ℕ) (s : Script) → Spells text s → BelowIn
 abbrev pub TextsKeepTimelyIns : Type 0
 TextsKeepTimelyIns = (text : List ℕ) (s : Script) (x : EpDesc) → Spells text s → IsInletOf s x → (k : ℕ) → IsSparedBefore s x k
     → ((j : ℕ) → j < k → CompletesInTime s (inlet_of s x) j)
+    → IsRightStream s (report_of (fixed_of s) (moment s k).world) x.name
+
+-- .. always
+abbrev pub TextsKeepIns : Type 0
+TextsKeepIns = (text : List ℕ) (s : Script) (x : EpDesc) → Spells text s → IsInletOf s x → (k : ℕ) → IsSparedBefore s x k
     → IsRightStream s (report_of (fixed_of s) (moment s k).world) x.name

@@ -26,6 +26,12 @@ pub mod InwardMoments
 pub mod BelowSenders
 pub mod InwardTexts
 pub mod LastResults
+pub mod LateLinks
+pub mod LateAside
+pub mod LateWalk
+pub mod LateMissed
+pub mod LateSteps
+pub mod LateRuns
 pub mod InwardRuns
 pub mod InwardReporting
 pub mod DeafHubs

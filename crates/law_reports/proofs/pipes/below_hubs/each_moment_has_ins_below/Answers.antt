@@ -1,6 +1,7 @@
-use Rattle.law_reports.proofs.lemmas.pipes.lemmas.below_hubs.InwardReporting.{texts_keep_ins_below, texts_keep_timely_ins}
+use Rattle.law_reports.proofs.lemmas.pipes.lemmas.below_hubs.InwardReporting.{texts_keep_ins, texts_keep_ins_below, texts_keep_timely_ins}
 use Rattle.law_reports.proofs.lemmas.pipes.lemmas.below_hubs.InwardRuns.{texts_are_inward}
 use Rattle.law_reports.proofs.lemmas.pipes.lemmas.below_hubs.InwardTexts.{texts_open_inlets}
+use Rattle.law_reports.proofs.lemmas.pipes.lemmas.below_hubs.LateRuns.{texts_miss_late}
 use Rattle.law_reports.proofs.pipes.below_hubs.each_moment_has_ins_below.Goals as goal
 
 pub returns : goal.returns
@@ -9,4 +10,6 @@ returns c = record {
   standing = texts_are_inward;
   streams = texts_keep_ins_below;
   timely = texts_keep_timely_ins;
+  missed = texts_miss_late;
+  always = texts_keep_ins;
 }

@@ -55,7 +55,7 @@ use Rattle.law_reports.specs.pipes.Begun.{IsOfRow}
 use Rattle.law_reports.specs.pipes.Declared.{Sides}
 use Rattle.law_reports.specs.pipes.Piped.{Heads, asked_as, IsPiped}
 use Rattle.law_reports.specs.pipes.below_hubs.BehindLaws.{WorldFindsNoneTold}
-use Rattle.law_reports.specs.pipes.below_hubs.Inward.{Inlet, may_be_late, renewed, host_waits, is_frame_begun, still_timely}
+use Rattle.law_reports.specs.pipes.below_hubs.Inward.{Inlet, is_late_host, may_be_late, renewed, host_waits, is_frame_begun, still_timely}
 use Rattle.law_reports.specs.pipes.below_hubs.InwardLaws.{WorldAsksInTime, BeginsFrame, WaitsAt, IsLateBy, now, before}
 use Rattle.law_reports.proofs.lemmas.pipes.lemmas.below_hubs.FoundNone.{periodic_by}
 
@@ -82,6 +82,7 @@ pub renew : (kind : EpKind) (packets : List (List ℕ)) (w : Wired) (i place : �
     → IsInBehind kind packets w i place (timely || not (may_be_late hand n (parts n n))) known parts hand n x
 renew kind packets w i place timely known parts hand n x k =
     let host : HostSide = hand_host hand n k.queue in
+    let slow : (k.queue.eps == 2) ≡ false = sym (ap (λ (e : Told). e.speed == 2) k.is) ∙ k.below in
     record {
       queue = k.queue;
       head = k.head;
@@ -94,8 +95,10 @@ renew kind packets w i place timely known parts hand n x k =
       hub = k.hub;
       side = subst (λ (o : Option Structure). InSide packets (told_key kind Directions.In x) i place w host.toggle host.waiting
           (not host.halted) (timely || not (may_be_late hand n o)) known) (sym k.head)
+          (subst (λ (high : Bool). InSide packets (told_key kind Directions.In x) i place w host.toggle host.waiting (not host.halted)
+          (timely || not (not high && is_late_host host)) known) (sym slow)
           (renew_side packets (told_key kind Directions.In x) i place w host.toggle timely known host.active host.waiting host.halted
-          k.rests k.side);
+          k.rests k.side));
     }
 
 -- ---- an event of the controller

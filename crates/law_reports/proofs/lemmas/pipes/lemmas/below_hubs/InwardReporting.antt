@@ -50,12 +50,13 @@ use Rattle.law_reports.specs.pipes.high_streams.Names.{HasItsNames}
 use Rattle.law_reports.specs.pipes.high_streams.Opened.{AreOpened}
 use Rattle.law_reports.specs.pipes.below_hubs.BehindLaws.{spots_of}
 use Rattle.law_reports.specs.pipes.below_hubs.Inward.{is_inlet, Begins, IsSpared, is_in_below, HasInward}
-use Rattle.law_reports.specs.pipes.below_hubs.InwardLaws.{inlet_of, takes_in, IsInletOf, HasItsInlet, CompletesInTime, IsInwardAt, TextsKeepInsBelow, TextsKeepTimelyIns}
+use Rattle.law_reports.specs.pipes.below_hubs.InwardLaws.{inlet_of, takes_in, IsInletOf, HasItsInlet, CompletesInTime, IsInwardAt, TextsKeepInsBelow, TextsKeepTimelyIns, TextsKeepIns}
 use Rattle.law_reports.proofs.lemmas.pipes.lemmas.below_hubs.BehindControlled.{bulk_is}
 use Rattle.law_reports.proofs.lemmas.pipes.lemmas.below_hubs.BehindMoments.{texts_are_behind}
 use Rattle.law_reports.proofs.lemmas.pipes.lemmas.below_hubs.InwardControlled.{in_stream}
 use Rattle.law_reports.proofs.lemmas.pipes.lemmas.below_hubs.InwardDriven.{in_begun}
 use Rattle.law_reports.proofs.lemmas.pipes.lemmas.below_hubs.InwardRuns.{texts_are_inward}
+use Rattle.law_reports.proofs.lemmas.pipes.lemmas.below_hubs.LateRuns.{in_time}
 use Rattle.law_reports.proofs.lemmas.pipes.lemmas.below_hubs.InwardTexts.{claimed_in_way, in_slow, texts_open_inlets}
 use Rattle.law_reports.proofs.lemmas.pipes.lemmas.high_streams.Lives.{IsTold, lines_told, is_told, nothing_told}
 use Rattle.law_reports.proofs.lemmas.pipes.lemmas.high_streams.Lives.IsTold.{told_then, told_none, told_there}
@@ -239,6 +240,10 @@ module _ (text : List ℕ) (s : Script) (spelled : Spells text s) where
 
 pub texts_keep_timely_ins : TextsKeepTimelyIns
 texts_keep_timely_ins text s x spelled is k spared completes = right_at text s spelled x is k spared completes
+
+pub texts_keep_ins : TextsKeepIns
+texts_keep_ins text s x spelled is k spared =
+    right_at text s spelled x is k spared (λ j low periodic h last key late. in_time text s spelled j h last late)
 
 pub texts_keep_ins_below : TextsKeepInsBelow
 texts_keep_ins_below text s spelled = ins_right text s spelled
