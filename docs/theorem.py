@@ -106,7 +106,7 @@ SAYS = {
     "streams": "Whatever a script opens and cancels: at each moment, and after the run, the bytes told of each bulk and interrupt IN endpoint at high speed that was opened begin its stream, each once and in order; those told of each such OUT "
                     "endpoint begin what its device took, and these begin what was put to it. No line follows its end, and nothing is pending then. In mid-run they are compared with all puts "
                     "that weren't refused so far; after the run with all of the script that weren't. The same holds of each bulk and interrupt OUT endpoint at low or full speed that is behind a port of a hub of the script, whatever "
-                    "is asked of the hub; but its device may take more behind the line that tells its end. Of each bulk IN endpoint there the bytes told begin its stream, no line follows its end, and nothing is pending then, at each "
+                    "is asked of the hub; but its device may take more behind the line that tells its end. Of each such IN endpoint there the bytes told begin its stream, no line follows its end, and nothing is pending then, at each "
                     "moment before which its hub never heard as its last request that it clears a buffer (CLEAR_TT_BUFFER) or resets a translator (RESET_TT), and after each run in which it never did; and throughout each script none of whose "
                     "`control` lines to that hub is such a request.",
     "pipes": "At each moment, of each bulk and interrupt IN endpoint at high speed that was opened, isn't given back and isn't unlinked, while no interrupt endpoint is being opened: its device knows the first packets of its stream to be "

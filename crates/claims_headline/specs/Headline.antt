@@ -2,7 +2,7 @@
 -- endpoint is admitted exactly where some placement keeps every budget; what is due is done; and no word is touched after its release
 -- (EHCI 1.0, 4.4, 4.6 to 4.8, 4.10 and 4.12; USB 2.0, 5.5 to 5.8, 8.5, 8.6 and 11.14 to 11.18). Each part says of which endpoints.
 --     IsOfStreams s x            of the stream of endpoint x something is claimed: it is a bulk or interrupt endpoint at high speed, or an
---                                OUT endpoint of either kind behind a port of a hub of the script, or a bulk IN endpoint there, where no
+--                                OUT endpoint of either kind behind a port of a hub of the script, or an IN endpoint there, where no
 --                                `control` line to this hub clears a buffer or resets a translator
 --     TellsStreams s r           of each such endpoint that was opened the bytes told begin its stream, each once and in order, up to the
 --                                line of its end, and nothing follows that; those told of an OUT endpoint begin what its device took
@@ -46,7 +46,7 @@ use Rattle.claims_world.specs.Streams.{report_of}
 pub data IsOfStreams (s : Script) (x : EpDesc) : Type 0 where
   at_high_speed : claimed s x ≡ true → IsOfStreams s x
   out_below_hub : is_claimed_below s x ≡ true → IsOfStreams s x
-  bulk_in_below_hub : is_claimed_in s x ≡ true → LeavesTranslator s x → IsOfStreams s x
+  in_below_hub : is_claimed_in s x ≡ true → LeavesTranslator s x → IsOfStreams s x
 
 abbrev pub TellsStreams : Script → WholeReport → Type 0
 TellsStreams s r = AllByRecursion (λ x. IsOfStreams s x → IsRightStream s r x.name) (opened s r)

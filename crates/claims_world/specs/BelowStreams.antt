@@ -2,7 +2,7 @@
 -- 5.8, 8.5, 8.6, 11.17, 11.18 and 11.24.2). Of an OUT endpoint of either kind: the bytes that the report tells begin what its device took,
 -- and these begin what is put to it, after the run, and at each moment of it (then of the puts that weren't refused so far); no line
 -- follows its end. A hub may have a packet when its endpoint ends, and works on: so what a device took may grow behind that line. No
--- request to a hub changes this, to clear a buffer (CLEAR_TT_BUFFER) or to reset a translator (RESET_TT). Of a bulk IN endpoint: the bytes
+-- request to a hub changes this, to clear a buffer (CLEAR_TT_BUFFER) or to reset a translator (RESET_TT). Of an IN endpoint of either kind: the bytes
 -- that the report tells begin its stream, and no line follows its end, at each moment before which its hub never heard such a request
 -- last: for that may throw away what the device has sent, and the host hasn't heard yet. So it is throughout a script none of whose
 -- `control` lines to this hub is such a request.
@@ -14,7 +14,7 @@
 --     AreBelowStreams s r         each that was opened has a right stream
 --     BelowOutsAreTaken s, BelowOutsAreSent s     so it is at each moment of the script
 --     BelowStreamsEndRight s      once no line is left to do these are whole: all of them are right
---     is_bulk_in_below x, is_claimed_in s x     .. so of bulk IN endpoints
+--     is_in_below x, is_claimed_in s x     .. so of bulk and interrupt IN endpoints
 --     clears_translator setup     a request of these setup bytes clears a buffer, or resets a translator
 --     heard_clear h               the last request that the hub's endpoint 0 heard is such a one
 --     IsSparedAt s x k            no hub with the address of x's hub has heard such a one last, at this moment
@@ -69,11 +69,11 @@ abbrev pub is_bulk : EpKind → Bool
 is_bulk Bulk = true
 is_bulk _ = false
 
-abbrev pub is_bulk_in_below : EpDesc → Bool
-is_bulk_in_below x = is_bulk x.kind && (not (is_high x.speed) && comes_in x.name.way)
+abbrev pub is_in_below : EpDesc → Bool
+is_in_below x = has_stream x.kind && (not (is_high x.speed) && comes_in x.name.way)
 
 abbrev pub is_claimed_in : Script → EpDesc → Bool
-is_claimed_in s x = is_bulk_in_below x && has_hub s x.hub x.port
+is_claimed_in s x = is_in_below x && has_hub s x.hub x.port
 
 -- ---- what its hub hears
 

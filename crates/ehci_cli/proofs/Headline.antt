@@ -13,7 +13,7 @@ use Rattle.claims_world.specs.BelowStreams.{is_claimed_below, is_claimed_in, Lea
 use Rattle.claims_world.specs.HighStreams.{claimed}
 use Rattle.claims_world.specs.Streams.{report_of}
 use Rattle.claims_headline.specs.Headline.{IsOfStreams, PrintsStreams, KeepsHeadline}
-use Rattle.claims_headline.specs.Headline.IsOfStreams.{at_high_speed, out_below_hub, bulk_in_below_hub}
+use Rattle.claims_headline.specs.Headline.IsOfStreams.{at_high_speed, out_below_hub, in_below_hub}
 use Rattle.law_reports.proofs.HandedOn.{each_moment_keeps_to_lent_blocks, scripts_give_back_last, scripts_leave_what_is_back}
 use Rattle.law_reports.proofs.lemmas.due_at_begin.Moments.{texts_do_what_is_due_at_begin}
 use Rattle.law_reports.proofs.lemmas.due_at_begin.SitdMoments.{texts_serve_sitds_at_begin}
@@ -54,7 +54,7 @@ module _ (s : Script) (r : WholeReport) where
       told : IsOfStreams s x → IsRight x
       told (at_high_speed e) = high.0 e
       told (out_below_hub e) = outs.0 e
-      told (bulk_in_below_hub e left) = ins.0 e left
+      told (in_below_hub e left) = ins.0 e left
 
 prints_streams : (s : Script) → KeepsStreams s → PrintsStreams s
 prints_streams s k = record {

@@ -149,13 +149,14 @@ use usb_base::{Sink, Source};
 /// stream, each once and in order, and nothing follows its end; those that it tells of each such OUT endpoint begin what its device took,
 /// and these begin what was put to it: after the run, and at each moment of it, when the puts are those that weren't refused so far;
 /// whatever is lost, damaged or held, and whatever else is asked and answers. After the run these are all its streams at high speed.
-/// At each moment the host has accepted the packets that such an IN endpoint's device knows to be accepted, or one more, with the toggle
-/// that belongs to it.
 /// The same holds of the bytes of each bulk and interrupt OUT endpoint behind a hub of the script, whatever is asked of the hub; but its
 /// device may take more behind the line that tells its end.
-/// The bytes that the report tells of each bulk IN endpoint behind a hub of the script begin its stream, too, and nothing follows its end,
-/// at each moment before which the hub never heard as its last request that it clears a buffer or resets a translator, and after a run in
-/// which it never did: so throughout and after the run of a script none of whose `control` lines to the hub is such a request.
+/// The bytes that the report tells of each such IN endpoint there begin its stream, too, and nothing follows its end, at each moment before
+/// which the hub never heard as its last request that it clears a buffer or resets a translator, and after a run in which it never did: so
+/// throughout and after the run of a script none of whose `control` lines to the hub is such a request.
+///
+/// At each moment the host has accepted the packets that the device of a bulk or interrupt IN endpoint at high speed knows to be accepted,
+/// or one more, with the toggle that belongs to it.
 ///
 /// Whatever the script opens, no line follows the one that tells the end of a bulk, interrupt or isochronous endpoint, and nothing of it is
 /// pending then, at each moment and after the run. No line tells a missed microframe of an endpoint at high speed.

@@ -25,7 +25,7 @@ use Rattle.law_below_hubs.specs.HostEvents.{told_key}
 use Rattle.law_below_hubs.proofs.Opening.{opens_without_keys}
 use Rattle.law_reports.specs.pipes.Piped.{asked_as}
 use Rattle.law_reports.specs.pipes.below_hubs.BehindLaws.{hub_of, place_of}
-use Rattle.law_reports.specs.pipes.below_hubs.Inward.{is_in_below}
+use Rattle.claims_world.specs.BelowStreams.{is_in_below}
 use Rattle.law_reports.specs.pipes.below_hubs.InwardLaws.{takes_in}
 use Rattle.law_reports.proofs.lemmas.pipes.lemmas.below_hubs.BelowTexts.{HasItsHub, its_hub, texts_open_spots, opens_found}
 use Rattle.law_reports.proofs.lemmas.pipes.lemmas.below_hubs.InwardTexts.{unmoved}

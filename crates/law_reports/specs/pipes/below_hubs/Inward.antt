@@ -24,12 +24,9 @@ use Rattle.usb_base.specs.declared.packets.Way.TheVariants as ways
 use Rattle.hub_class.specs.HubContent.{HubContent}
 use Rattle.bus_wire.specs.Bus.{Wired, Fixed}
 use Rattle.claims_base.specs.Prefix.{IsPrefix}
-use Rattle.claims_driver.specs.Scripts.{comes_in}
-use Rattle.claims_report.specs.Streams.{has_stream}
-use Rattle.claims_world.specs.BelowStreams.{heard_clear}
+use Rattle.claims_world.specs.BelowStreams.{heard_clear, is_in_below}
 use Rattle.drv_table.specs.declared.content.Endpoint.{Endpoint}
 use Rattle.drv_table.specs.DriverContent.{DriverContent}
-use Rattle.drv_table.specs.Words.{is_high}
 use Rattle.toggle_error.specs.declared.host.HostSide.{HostSide}
 use Rattle.law_structures.specs.lent_structures.Structures.{QueueHead, Structure, StructureSets}
 use Rattle.law_ring.specs.Hand.{Hand}
@@ -82,10 +79,6 @@ abbrev pub IsSpared : Inlet → Wired → Type 0
 IsSpared v wire = (h : HubContent) → slice_get wire.bus.hubs v.hub ≡ Some h → heard_clear h ≡ false
 
 -- ---- a world
-
--- an IN endpoint with a stream
-abbrev pub is_in_below : EpDesc → Bool
-is_in_below x = has_stream x.kind && (not (is_high x.speed) && comes_in x.name.way)
 
 pub record IsInward (fixed : Fixed) (v : Inlet) (timely : ℕ → Bool) (s : Standing) (m : Lines) (w : World) : Type 0 where
   pub claims : is_in_below v.desc ≡ true

@@ -65,7 +65,8 @@ use Rattle.law_reports.specs.pipes.Piped.{Heads, asked_as, IsPiped}
 use Rattle.law_reports.specs.pipes.PipedLaws.{OpensDeclared}
 use Rattle.law_reports.specs.pipes.below_hubs.Behind.{Spots}
 use Rattle.law_reports.specs.pipes.below_hubs.BehindLaws.{WorldFindsNoneTold, OpensSpot, hub_of, place_of, spots_of}
-use Rattle.law_reports.specs.pipes.below_hubs.Inward.{Inlet, IsInletBy, Unmoved, IsSpared, is_in_below, may_be_late, HasInward}
+use Rattle.claims_world.specs.BelowStreams.{is_in_below}
+use Rattle.law_reports.specs.pipes.below_hubs.Inward.{Inlet, IsInletBy, Unmoved, IsSpared, may_be_late, HasInward}
 use Rattle.law_microframes.specs.translators.Fresh.{key_started}
 
 abbrev pub SparedHubsKeepKeys : Type 0

@@ -31,7 +31,8 @@ use Rattle.law_reports.specs.pipes.Piped.{Heads, asked_as, AreFresh, AreLeft, Is
 use Rattle.law_reports.specs.pipes.puts.Paid.{Pays}
 use Rattle.law_reports.specs.pipes.below_hubs.Behind.{Spots, IsBehind}
 use Rattle.law_reports.specs.pipes.below_hubs.Controlled.{IsWatched}
-use Rattle.law_reports.specs.pipes.below_hubs.Inward.{Inlet, is_inlet, IsInletBy, Unmoved, Begins, IsSpared, is_in_below, IsInward}
+use Rattle.claims_world.specs.BelowStreams.{is_in_below}
+use Rattle.law_reports.specs.pipes.below_hubs.Inward.{Inlet, is_inlet, IsInletBy, Unmoved, Begins, IsSpared, IsInward}
 use Rattle.law_reports.specs.pipes.below_hubs.Inward.{renewed, still_timely}
 use Rattle.law_reports.specs.pipes.below_hubs.BehindLaws.{WorldFindsNoneTold}
 use Rattle.law_reports.specs.pipes.below_hubs.InwardLaws.{WorldAsksInTime}

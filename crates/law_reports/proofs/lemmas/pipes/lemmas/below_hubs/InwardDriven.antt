@@ -43,7 +43,8 @@ use Rattle.law_reports.specs.pipes.Declared.{Sides}
 use Rattle.law_reports.specs.pipes.Piped.{Heads, asked_as, IsOpening, AreFresh, IsPiped}
 use Rattle.law_reports.specs.pipes.puts.Paid.{Pays}
 use Rattle.law_reports.specs.pipes.below_hubs.Behind.{Spots, IsBehind}
-use Rattle.law_reports.specs.pipes.below_hubs.Inward.{Inlet, is_inlet, IsInletBy, AreInlets, Unmoved, Begins, is_in_below, IsInward}
+use Rattle.claims_world.specs.BelowStreams.{is_in_below}
+use Rattle.law_reports.specs.pipes.below_hubs.Inward.{Inlet, is_inlet, IsInletBy, AreInlets, Unmoved, Begins, IsInward}
 use Rattle.law_reports.proofs.lemmas.pipes.Across.{WasIn}
 use Rattle.law_reports.proofs.lemmas.pipes.Carried.{was_met, fresh_carried}
 use Rattle.law_reports.proofs.lemmas.pipes.Driven.{was_end, now_end, opening_then}

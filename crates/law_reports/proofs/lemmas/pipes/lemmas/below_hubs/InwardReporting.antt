@@ -25,7 +25,7 @@ use Rattle.claims_report.specs.Reports.{WholeReport}
 use Rattle.claims_report.specs.Streams.{opened, stream_by, told, told_in, has_stream, AreBytesRight, IsRightStream}
 use Rattle.claims_world.specs.Ends.{IsEndedOnce}
 use Rattle.claims_world.specs.Streams.{report_of}
-use Rattle.claims_world.specs.BelowStreams.{is_bulk, is_bulk_in_below, has_hub, is_claimed_in, heard_clear, IsSparedAt, IsSparedBefore}
+use Rattle.claims_world.specs.BelowStreams.{has_hub, is_claimed_in, heard_clear, IsSparedAt, IsSparedBefore}
 use Rattle.claims_world.specs.BelowStreams.{AreBelowInStreams, BelowInsAreRight}
 use Rattle.claims_driver.specs.Scripts.{comes_in}
 use Rattle.drv_table.specs.declared.content.Endpoint.{Endpoint}
@@ -49,7 +49,8 @@ use Rattle.law_reports.specs.pipes.Piped.{asked_as}
 use Rattle.law_reports.specs.pipes.high_streams.Names.{HasItsNames}
 use Rattle.law_reports.specs.pipes.high_streams.Opened.{AreOpened}
 use Rattle.law_reports.specs.pipes.below_hubs.BehindLaws.{spots_of}
-use Rattle.law_reports.specs.pipes.below_hubs.Inward.{is_inlet, Begins, IsSpared, is_in_below, HasInward}
+use Rattle.claims_world.specs.BelowStreams.{is_in_below}
+use Rattle.law_reports.specs.pipes.below_hubs.Inward.{is_inlet, Begins, IsSpared, HasInward}
 use Rattle.law_reports.specs.pipes.below_hubs.InwardLaws.{inlet_of, takes_in, IsInletOf, HasItsInlet, CompletesInTime, IsInwardAt, TextsKeepInsBelow, TextsKeepTimelyIns, TextsKeepIns}
 use Rattle.law_reports.proofs.lemmas.pipes.lemmas.below_hubs.BehindControlled.{bulk_is}
 use Rattle.law_reports.proofs.lemmas.pipes.lemmas.below_hubs.BehindMoments.{texts_are_behind}
@@ -216,26 +217,13 @@ module _ (text : List ℕ) (s : Script) (spelled : Spells text s) where
         let a : IsInwardAt s (inlet_of s x) k = inward k spared completes in
         right_in s (moment s k).world (puts_at s k) x is a.timely a.inward (moments_are_opened s names.fit k) names
 
-  takes_bulk : (x : EpDesc) → is_claimed_in s x ≡ true → takes_in s x ≡ true
-  takes_bulk x claims =
-      let both = and_parts (is_bulk_in_below x) (has_hub s x.hub x.port) claims in
-      let inner = and_parts (is_bulk x.kind) (not (is_high x.speed) && comes_in x.name.way) both.0 in
-      and_from (is_in_below x) (has_hub s x.hub x.port)
-      (and_from (has_stream x.kind) (not (is_high x.speed) && comes_in x.name.way) (ap has_stream (bulk_is x.kind inner.0)) inner.1) both.1
-
-  bulk_kind : (x : EpDesc) → is_claimed_in s x ≡ true → x.kind ≡ kinds.Bulk
-  bulk_kind x claims =
-      bulk_is x.kind
-      (and_parts (is_bulk x.kind) (not (is_high x.speed) && comes_in x.name.way)
-      (and_parts (is_bulk_in_below x) (has_hub s x.hub x.port) claims).0).0
-
   ins_right : BelowInsAreRight s
   ins_right k =
       all_kept (IsSeated s) (λ x. IsSparedBefore s x k → IsRightStream s (report_of (fixed_of s) (moment s k).world) x.name)
       (is_claimed_in s) (opened s (report_of (fixed_of s) (moment s k).world))
       (λ x seat claims spared.
-      right_at x (record { claims = takes_bulk x claims; opened = seat.0 }) k spared
-      (λ j low periodic. absurd (let never : kinds.Bulk ≡ kinds.Interrupt = sym (bulk_kind x claims) ∙ periodic in cc)))
+      right_at x (record { claims = claims; opened = seat.0 }) k spared
+      (λ j low periodic h last key late. in_time text s spelled j h last late))
       (opened_seated s (report_of (fixed_of s) (moment s k).world) (seated k).seats)
 
 pub texts_keep_timely_ins : TextsKeepTimelyIns

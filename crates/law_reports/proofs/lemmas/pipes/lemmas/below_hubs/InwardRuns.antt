@@ -42,7 +42,8 @@ use Rattle.bus_world.proofs.Rooming.{less_room, rest_room, room_of_all, can_offe
 use Rattle.law_reports.specs.pipes.Declared.{Sides, sides_of}
 use Rattle.law_reports.specs.pipes.below_hubs.Behind.{Spots, HasBehind}
 use Rattle.law_reports.specs.pipes.below_hubs.BehindLaws.{OpensSpot, OpensSpots, OpensUnsent, spots_of}
-use Rattle.law_reports.specs.pipes.below_hubs.Inward.{Inlet, is_inlet, IsSpared, is_in_below, renewed, HasInward}
+use Rattle.claims_world.specs.BelowStreams.{is_in_below}
+use Rattle.law_reports.specs.pipes.below_hubs.Inward.{Inlet, is_inlet, IsSpared, renewed, HasInward}
 use Rattle.law_reports.specs.pipes.below_hubs.InwardLaws.{OpensInlet, inlet_of, IsInletOf, HasItsInlet, TextsAreInward}
 use Rattle.law_reports.specs.pipes.below_hubs.InwardLaws.{IsLateBy, now, before, IsLateSince, begins, waits_on, WorldAsksInTime}
 use Rattle.law_reports.specs.pipes.below_hubs.InwardLaws.{IsCompletingLast, CompletesInTime, IsInwardAt}

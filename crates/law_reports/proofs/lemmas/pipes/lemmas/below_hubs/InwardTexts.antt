@@ -51,7 +51,8 @@ use Rattle.law_below_hubs.proofs.HostOpens.{in_opens}
 use Rattle.law_below_hubs.proofs.Opening.{opens_without_keys, opens_right}
 use Rattle.law_world.specs.steps.receiving_runs.Runs.{KindOfLine}
 use Rattle.law_reports.specs.pipes.Piped.{asked_as}
-use Rattle.law_reports.specs.pipes.below_hubs.Inward.{Inlet, is_inlet, IsInletBy, Unmoved, is_in_below}
+use Rattle.claims_world.specs.BelowStreams.{is_in_below}
+use Rattle.law_reports.specs.pipes.below_hubs.Inward.{Inlet, is_inlet, IsInletBy, Unmoved}
 use Rattle.law_reports.specs.pipes.below_hubs.InwardLaws.{OpensInlet, inlet_of, takes_in, IsInletOf, HasItsInlet, TextsOpenInlets}
 use Rattle.law_reports.proofs.lemmas.pipes.lemmas.below_hubs.BelowSenders.{sender_is, no_zero_in}
 use Rattle.law_reports.proofs.lemmas.pipes.lemmas.below_hubs.BelowTexts.{HasItsHub, its_hub}
