@@ -2,10 +2,8 @@
 --     is_of_hub s addr                     a hub has this address: its endpoint 0 answers by the state of the hub, and not by lines of the
 --                                          script
 --     control_of_part, control_of_device   the device's side that an endpoint is, and that of a device
---     control_of w addr num                that of the control endpoint of this address and number, where no IN or OUT endpoint has them
---                                          too; None where there is no such endpoint
 use Rattle.std.specs.List.{list_any}
-use Rattle.std.specs.Prelude.{ℕ, Bool, ◌==◌, true, ◌&&◌, false, slice_get, Option, Some, if◌then◌else◌, None}
+use Rattle.std.specs.Prelude.{ℕ, Bool, ◌==◌, true, ◌&&◌, false, Option, Some, if◌then◌else◌, None}
 use Rattle.usb_base.specs.declared.packets.Way.TheVariants as Ways
 use Rattle.script_types.specs.declared.scripts.Script.{Script}
 use Rattle.endpoint_script.specs.declared.endpoint.Endpoint.{Endpoint}
@@ -13,12 +11,6 @@ use Rattle.endpoint_script.specs.declared.endpoint.Role.{Role}
 use Rattle.endpoint_script.specs.declared.endpoint.Role.TheVariants.{Sends, Takes, Controls, Streams, Hears}
 use Rattle.endpoint_script.specs.Controlling.{Controlling, place_in, reply_at}
 use Rattle.endpoint_script.specs.Device.{Device, place_named, endpoint_at}
-use Rattle.bus_wire.specs.declared.seats.Owner.{Owner}
-use Rattle.bus_wire.specs.declared.seats.Owner.TheVariants as Owners
-use Rattle.bus_wire.specs.declared.seats.Seat.{Seat}
-use Rattle.bus_wire.specs.declared.seats.TokenKind.TheVariants.{In, Out, Setup}
-use Rattle.bus_wire.specs.Bus.{Bus, Wired}
-use Rattle.bus_wire.specs.Seats.{place_for}
 use Rattle.claims_report.specs.ControlSides.{Device as Side}
 
 abbrev pub is_of_hub : Script → ℕ → Bool
@@ -50,25 +42,6 @@ abbrev pub control_of_device : ℕ → ℕ → Option Device → Option Side
 control_of_device addr num None = None
 control_of_device addr num (Some d) = if is_alone addr num d then control_of_endpoint (endpoint_at d.endpoints (place_named d.endpoints num Ways.Ctl)) else None
 
-abbrev pub control_of_owner : Bus → ℕ → ℕ → Owner → Option Side
-control_of_owner b addr num (Owners.High place) = control_of_device addr num (slice_get b.devices place)
-control_of_owner b addr num (Owners.Hub place) = None
-control_of_owner b addr num (Owners.Below place hub port stuff) = None
-
-abbrev pub control_of_seat : Bus → ℕ → ℕ → Option Seat → Option Side
-control_of_seat b addr num None = None
-control_of_seat b addr num (Some seat) = control_of_owner b addr num seat.owner
-
 abbrev pub is_at : ℕ → Option ℕ → Bool
 is_at place None = false
 is_at place (Some other) = place == other
-
-abbrev pub control_of_place : Wired → ℕ → ℕ → Option ℕ → Option Side
-control_of_place w addr num None = None
-control_of_place w addr num (Some place) =
-    if is_at place (place_for w.fixed.seats addr num In) && is_at place (place_for w.fixed.seats addr num Out) then
-    control_of_seat w.bus addr num (slice_get w.fixed.seats place)
-    else None
-
-abbrev pub control_of : Wired → ℕ → ℕ → Option Side
-control_of w addr num = control_of_place w addr num (place_for w.fixed.seats addr num Setup)

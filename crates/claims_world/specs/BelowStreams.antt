@@ -30,8 +30,6 @@ use Rattle.std.specs.Prelude.{◌≡◌, ℕ, ◌<◌, ◌==◌, nat_le, ◌&&�
 use Rattle.std.specs.Prelude.{Option, Some, None}
 use Rattle.usb_base.specs.declared.commands.Cmd.TheVariants as commands
 use Rattle.usb_base.specs.declared.endpoints.EpDesc.{EpDesc}
-use Rattle.usb_base.specs.declared.packets.EpKind.{EpKind}
-use Rattle.usb_base.specs.declared.packets.EpKind.TheVariants.{Bulk}
 use Rattle.script_types.specs.declared.devices.HubText.{HubText}
 use Rattle.script_types.specs.declared.scripts.Line.{Line}
 use Rattle.script_types.specs.declared.scripts.Line.TheVariants as lines
@@ -64,10 +62,6 @@ has_hub s (Some hub) port = option_map_or (has_port port) (find (λ h. h.addr ==
 
 abbrev pub is_claimed_below : Script → EpDesc → Bool
 is_claimed_below s x = is_out_below x && has_hub s x.hub x.port
-
-abbrev pub is_bulk : EpKind → Bool
-is_bulk Bulk = true
-is_bulk _ = false
 
 abbrev pub is_in_below : EpDesc → Bool
 is_in_below x = has_stream x.kind && (not (is_high x.speed) && comes_in x.name.way)

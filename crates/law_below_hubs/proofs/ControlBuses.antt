@@ -18,7 +18,8 @@ use Rattle.bus_wire.specs.Seats.{token_kind, place_for}
 use Rattle.bus_wire.specs.Below.{Below, hears_at}
 use Rattle.bus_wire.specs.Bus.{Bus, Wired, hears, hears_plain, transact_after}
 use Rattle.claims_report.specs.ControlSides.{Device as Side}
-use Rattle.claims_report.specs.Controls.{control_of_device, control_of_owner, control_of_seat, control_of_place, control_of, is_at}
+use Rattle.claims_report.specs.Controls.{control_of_device, is_at}
+use Rattle.law_devices.specs.Controls.{control_of_owner, control_of_seat, control_of_place, control_of}
 use Rattle.law_request.specs.Host.{Endpoint}
 use Rattle.law_devices.specs.request_calls.Bus.{device_of, IsAnswered, IsAskFor}
 use Rattle.law_devices.specs.scripted_requests.Controls.{transacts_by}

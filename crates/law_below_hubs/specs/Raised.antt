@@ -18,7 +18,7 @@ use Rattle.bus_wire.specs.Fixed.{Fixed}
 use Rattle.bus_wire.specs.Below.{Below, hears_at, below_reply, below_after}
 use Rattle.bus_wire.specs.Bus.{Bus, Wired}
 use Rattle.claims_report.specs.ControlSides.{Device as Side}
-use Rattle.claims_report.specs.Controls.{control_of}
+use Rattle.law_devices.specs.Controls.{control_of}
 use Rattle.law_ring.specs.Bus.{Sender}
 use Rattle.law_ring.specs.OutBus.{Taker}
 use Rattle.law_devices.specs.Senders.{sender_of}

@@ -10,3 +10,4 @@ pub mod declared_controls
 pub mod Senders
 pub mod scripted_takers
 pub mod declared_takers
+pub mod Controls

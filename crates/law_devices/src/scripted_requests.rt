@@ -4,7 +4,7 @@
 //! The module has no code of its own: each function is a law over the definitions of `bus_wire` and `request_calls`, and its body is empty.
 
 ghost use Rattle.law_devices.specs.request_calls.Bus.{IsControlBus, KeepsDevices};
-ghost use Rattle.claims_report.specs.Controls.{control_of};
+ghost use Rattle.law_devices.specs.Controls.{control_of};
 ghost use Rattle.law_devices.specs.scripted_requests.Controls.{transacts_by, begins_by};
 
 /// The bus is such a bus.

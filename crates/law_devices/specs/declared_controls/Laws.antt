@@ -19,7 +19,7 @@ use Rattle.claims_report.specs.Reports.{WholeReport}
 use Rattle.claims_report.specs.Requests.{requests}
 use Rattle.law_request.specs.Windows.{IsRequest}
 use Rattle.claims_report.specs.ControlSides.{Device}
-use Rattle.claims_report.specs.Controls.{control_of}
+use Rattle.law_devices.specs.Controls.{control_of}
 use Rattle.law_devices.specs.declared_controls.Opened.{OpensControls}
 use Rattle.law_devices.specs.declared_controls.Names.{NamesEndpoints}
 use Rattle.law_devices.specs.declared_controls.Requests.{AsksRequests}

@@ -19,7 +19,8 @@ use Rattle.claims_report.specs.Streams.{items_of}
 use Rattle.law_request.specs.Host.{Endpoint}
 use Rattle.law_request.specs.Scripted.{scripted}
 use Rattle.law_devices.specs.request_calls.Bus.{device_of}
-use Rattle.claims_report.specs.Controls.{control_of, is_of_hub}
+use Rattle.claims_report.specs.Controls.{is_of_hub}
+use Rattle.law_devices.specs.Controls.{control_of}
 
 abbrev pub endpoint_of : Script → EpDesc → Endpoint
 endpoint_of s x = scripted x.name.addr x.name.num x.max (requests_of (items_of s x.name))

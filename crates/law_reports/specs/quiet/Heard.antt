@@ -24,7 +24,8 @@ use Rattle.hub_class.specs.HubContent.{HubContent}
 use Rattle.bus_wire.specs.declared.seats.Seat.{Seat}
 use Rattle.bus_wire.specs.Bus.{Bus, fixed_of, opening_wired}
 use Rattle.bus_wire.specs.Seats.{seats_of}
-use Rattle.claims_report.specs.Controls.{is_of_hub, control_of}
+use Rattle.claims_report.specs.Controls.{is_of_hub}
+use Rattle.law_devices.specs.Controls.{control_of}
 use Rattle.claims_world.specs.Quiet.{is_nyet}
 use Rattle.drv_table.specs.declared.content.Endpoint.{Endpoint}
 use Rattle.drv_table.specs.DriverContent.{DriverContent}

@@ -51,7 +51,7 @@ use Rattle.law_devices.specs.request_calls.Bus.{device_of}
 use Rattle.law_reports.specs.requests.request_bytes.Held.{RequestIsHeld}
 use Rattle.law_ring.specs.Hand.{Hand}
 use Rattle.law_devices.specs.ring_requests.Runs.{first_of}
-use Rattle.claims_report.specs.Controls.{control_of}
+use Rattle.law_devices.specs.Controls.{control_of}
 use Rattle.bus_world.specs.World.{World}
 use Rattle.law_world.specs.steps.Streaming.{Standing}
 use Rattle.claims_world.specs.Requests.{wired, Windows, numbers_of, is_opening}

@@ -14,7 +14,7 @@ use Rattle.claims_report.specs.Requests.{Request, has_acted}
 use Rattle.claims_report.specs.ControlSides.{Device}
 use Rattle.law_ring.specs.Hand.{Hand}
 use Rattle.claims_base.specs.Controller.{Base}
-use Rattle.claims_report.specs.Controls.{control_of}
+use Rattle.law_devices.specs.Controls.{control_of}
 use Rattle.law_devices.specs.scripted_requests.Controls.{transacts_by, begins_by}
 use Rattle.bus_world.specs.World.{World, controller_next, controller_parts}
 use Rattle.claims_world.specs.Requests.{wired, Windows, after_event, numbers_of, window_at}

@@ -10,7 +10,8 @@ use Rattle.usb_base.specs.declared.endpoints.EpDesc.{EpDesc}
 use Rattle.drv_table.specs.Words.{is_control}
 use Rattle.bus_wire.specs.Bus.{opening_wired}
 use Rattle.claims_report.specs.Requests.{data_of}
-use Rattle.claims_report.specs.Controls.{control_of, is_of_hub}
+use Rattle.claims_report.specs.Controls.{is_of_hub}
+use Rattle.law_devices.specs.Controls.{control_of}
 use Rattle.law_devices.specs.declared_controls.Opened.{endpoint_of}
 use Rattle.law_devices.specs.declared_controls.Requests.{AsksCommand}
 use Rattle.law_reports.specs.requests.Asking.{Sides, IsGiven}

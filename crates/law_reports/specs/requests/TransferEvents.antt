@@ -17,7 +17,7 @@ use Rattle.law_ring.specs.Hand.{Hand}
 use Rattle.claims_base.specs.Controller.{Base}
 use Rattle.law_devices.specs.ring_requests.Windows.{Queue}
 use Rattle.claims_report.specs.ControlSides.{Device}
-use Rattle.claims_report.specs.Controls.{control_of}
+use Rattle.law_devices.specs.Controls.{control_of}
 use Rattle.law_devices.specs.scripted_requests.Controls.{transacts_by, begins_by}
 use Rattle.law_driver_ring.specs.Inventory.{sorts_of, IsDriven}
 use Rattle.bus_world.specs.World.{World, controller_next, controller_parts}

@@ -1,5 +1,5 @@
 //! The line of a cancel of a control endpoint at high speed (EHCI 1.0, 4.8.2 and 4.10; USB 2.0, 8.5.3).
-ghost use Rattle.claims_report.specs.Controls.{control_of};
+ghost use Rattle.law_devices.specs.Controls.{control_of};
 ghost use Rattle.law_reports.specs.requests.CancelLine.{RequestIsCounted, CancelIsBegun, CourseBegins, MetBegins, WaitsAreUnreported};
 ghost use Rattle.law_reports.specs.requests.LeftStays.{StepLeavesTold, EventLeavesTold};
 ghost use Rattle.law_reports.specs.requests.LeftTold.{DriverKeepsCancels, ControllerKeepsCancels, CommandKeepsCancels, TextsHaveCancels};

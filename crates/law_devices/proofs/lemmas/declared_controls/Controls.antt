@@ -40,7 +40,8 @@ use Rattle.claims_report.specs.Streams.{items_of, items_in}
 use Rattle.law_request.specs.Scripted.{scripted}
 use Rattle.claims_report.specs.ControlSides.{Device as Side}
 use Rattle.law_devices.specs.request_calls.Bus.{device_of as side_of}
-use Rattle.claims_report.specs.Controls.{control_of_part, control_of_device, control_of_owner, control_of_seat, is_at, control_of_place, control_of, is_of_hub}
+use Rattle.claims_report.specs.Controls.{control_of_part, control_of_device, is_at, is_of_hub}
+use Rattle.law_devices.specs.Controls.{control_of_owner, control_of_seat, control_of_place, control_of}
 use Rattle.law_devices.proofs.lemmas.scripted_requests.Finding.{device_control}
 use Rattle.law_devices.proofs.Lists.{Holds, all_find, any_later, any_found, found_passes, IsFirst, found_first, none_each, find_append, find_later, find_same, find_map}
 use Rattle.law_devices.proofs.Drafts.{addresses, IsEpOf, HasOwn, IsNamedIn, IsDeclaredDraft}

@@ -38,7 +38,8 @@ use Rattle.claims_report.specs.ControlSides.{Device as Side}
 use Rattle.law_devices.specs.request_calls.Bus.{device_of, IsAnswered, IsAskFor, IsControlBus}
 use Rattle.law_devices.proofs.Places.{set_here, set_beside}
 use Rattle.law_devices.proofs.Devices.{device_changes, address_after, place_answered}
-use Rattle.claims_report.specs.Controls.{side_in, control_of_part, control_of_device, control_of}
+use Rattle.claims_report.specs.Controls.{side_in, control_of_part, control_of_device}
+use Rattle.law_devices.specs.Controls.{control_of}
 use Rattle.law_devices.specs.scripted_requests.Controls.{transacts_by}
 use Rattle.law_devices.proofs.lemmas.scripted_requests.Finding.{HasControl, control_found, control_through, device_control, of_control, place_by}
 

@@ -28,7 +28,8 @@ use Rattle.dev_control.specs.declared.rows.StageToken.TheVariants as Tokens
 use Rattle.dev_control.specs.Stages.{token_of}
 use Rattle.claims_report.specs.ControlSides.{Device as Side}
 use Rattle.law_devices.specs.request_calls.Bus.{KeepsDevices}
-use Rattle.claims_report.specs.Controls.{control_of_part, control_of_device, control_of}
+use Rattle.claims_report.specs.Controls.{control_of_part, control_of_device}
+use Rattle.law_devices.specs.Controls.{control_of}
 use Rattle.law_devices.specs.scripted_requests.Controls.{begins_by}
 use Rattle.law_devices.proofs.Places.{set_here, set_beside}
 use Rattle.law_devices.proofs.Devices.{device_changes, address_after}

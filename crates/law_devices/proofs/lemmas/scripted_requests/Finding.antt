@@ -24,7 +24,8 @@ use Rattle.bus_wire.specs.Seats.{place_for}
 use Rattle.bus_wire.specs.Bus.{Bus, Wired}
 use Rattle.claims_report.specs.ControlSides.{Device as Side}
 use Rattle.law_devices.proofs.Places.{position_passes}
-use Rattle.claims_report.specs.Controls.{side_in, control_of_part, control_of_endpoint, is_nowhere, is_alone, control_of_device, control_of_owner, control_of_seat, is_at, control_of_place, control_of}
+use Rattle.claims_report.specs.Controls.{side_in, control_of_part, control_of_endpoint, is_nowhere, is_alone, control_of_device, is_at}
+use Rattle.law_devices.specs.Controls.{control_of_owner, control_of_seat, control_of_place, control_of}
 
 -- ---- where it stands
 

@@ -25,7 +25,8 @@ use Rattle.hc_copy.specs.declared.held.Transaction.{Transaction}
 use Rattle.hc_copy.specs.Planning.{pid_at, speed_at, queue_pipe, host_in, split_at, bytes_out, transaction_of}
 use Rattle.hc_copy.specs.Transacting.{call_in}
 use Rattle.bus_wire.specs.Bus.{fixed_of, opening_wired, reply_of}
-use Rattle.claims_report.specs.Controls.{is_of_hub, control_of}
+use Rattle.claims_report.specs.Controls.{is_of_hub}
+use Rattle.law_devices.specs.Controls.{control_of}
 use Rattle.claims_report.specs.Streams.{has_stream}
 use Rattle.claims_world.specs.Quiet.{IsHeardAbove}
 use Rattle.drv_table.specs.declared.content.Endpoint.{Endpoint}

@@ -29,7 +29,7 @@ use Rattle.bus_wire.specs.Seats.{seats_of}
 use Rattle.bus_wire.specs.Bus.{Bus, Wired, fixed_of, floor_of, opening_bus, asked_of, reply_of, transact_after}
 use Rattle.bus_wire.specs.Bus.{is_allowed, begin_after}
 use Rattle.claims_report.specs.ControlSides.{Device as Side}
-use Rattle.claims_report.specs.Controls.{control_of}
+use Rattle.law_devices.specs.Controls.{control_of}
 use Rattle.claims_world.specs.Quiet.{is_nyet, IsHeardAbove, KeepsHandshakes}
 use Rattle.law_request.specs.Host.{Endpoint as Own}
 use Rattle.law_devices.specs.request_calls.Bus.{device_of, IsAskFor, IsAnswered}

@@ -43,7 +43,8 @@ use Rattle.bus_wire.specs.Fates.{is_against, is_bad, is_same_name, is_unheard}
 use Rattle.bus_wire.specs.Seats.{hub_seat, token_kind, suits, place_for, hub_seats_from, device_seats, seats_of}
 use Rattle.bus_wire.specs.WhoHeard.{who_heard, asker_hears, is_answer, later, packets_before}
 use Rattle.claims_answers.specs.Hearing.{gets_through}
-use Rattle.claims_report.specs.Controls.{is_of_hub, control_of}
+use Rattle.claims_report.specs.Controls.{is_of_hub}
+use Rattle.law_devices.specs.Controls.{control_of}
 use Rattle.claims_world.specs.Quiet.{GetsThroughAbove, IsHeardAbove}
 use Rattle.law_ring.specs.Bus.{Sender}
 use Rattle.law_ring.specs.OutBus.{Taker}

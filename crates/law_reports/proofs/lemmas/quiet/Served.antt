@@ -18,7 +18,8 @@ use Rattle.script_types.specs.declared.scripts.Line.TheVariants as lines
 use Rattle.script_types.specs.declared.scripts.Script.{Script}
 use Rattle.script_text.specs.Faults.{Spells}
 use Rattle.bus_wire.specs.Bus.{opening_wired}
-use Rattle.claims_report.specs.Controls.{is_of_hub, control_of}
+use Rattle.claims_report.specs.Controls.{is_of_hub}
+use Rattle.law_devices.specs.Controls.{control_of}
 use Rattle.drv_table.specs.Words.{is_control, is_high}
 use Rattle.law_devices.specs.declared_controls.Names.{HasItsName, IsNameOf, NamesLine}
 use Rattle.law_devices.specs.declared_controls.Opened.{HasItsControl, OpensItsControl}

@@ -13,7 +13,8 @@ use Rattle.claims_report.specs.Requests.{Request}
 use Rattle.law_ring.specs.Hand.{Hand}
 use Rattle.claims_base.specs.Controller.{Base}
 use Rattle.law_devices.specs.ring_requests.Windows.{Queue, Lines, IsQueue, Progress, Transaction, Advance, Step, opened, progressed, stepped, stage_of}
-use Rattle.claims_report.specs.Controls.{control_of, is_at}
+use Rattle.claims_report.specs.Controls.{is_at}
+use Rattle.law_devices.specs.Controls.{control_of}
 use Rattle.law_devices.specs.scripted_requests.Controls.{transacts_by, begins_by}
 use Rattle.bus_world.specs.World.{World, controller_parts, controller_next}
 use Rattle.claims_world.specs.Requests.{wired, endpoint_of, Windows, acted_between, acts_in, opened_by, begun_by, acted_by, after_event}

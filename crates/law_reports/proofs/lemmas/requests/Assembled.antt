@@ -34,7 +34,7 @@ use Rattle.law_controller.specs.controlled_streams.Kept.{KeepsEach}
 use Rattle.law_ring.specs.Hand.{Hand}
 use Rattle.law_devices.specs.ring_requests.Laid.{Places}
 use Rattle.law_devices.specs.ring_requests.Windows.{Queue, Step}
-use Rattle.claims_report.specs.Controls.{control_of}
+use Rattle.law_devices.specs.Controls.{control_of}
 use Rattle.bus_world.specs.World.{World, controller_next}
 use Rattle.law_world.specs.steps.Streaming.{Streams, Standing}
 use Rattle.claims_world.specs.Requests.{wired, Windows, numbers_of, after_event, opens, is_opening}

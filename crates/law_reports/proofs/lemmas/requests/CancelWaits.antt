@@ -7,7 +7,7 @@ use Rattle.std.proofs.lemmas.List.{length-append}
 use Rattle.std.proofs.lemmas.List.Sums.{sum_by-cons}
 use Rattle.law_driver_ring.proofs.Common.{one_told}
 use Rattle.claims_base.specs.Prefix.{IsPrefix}
-use Rattle.claims_report.specs.Controls.{control_of}
+use Rattle.law_devices.specs.Controls.{control_of}
 use Rattle.claims_report.specs.ControlSides.{Device}
 use Rattle.claims_world.specs.Requests.{numbers_from, numbers_of}
 use Rattle.drv_table.specs.declared.content.Transfer.{Transfer}

@@ -11,7 +11,7 @@ use Rattle.usb_base.specs.declared.endpoints.EpName.{EpName}
 use Rattle.usb_base.specs.declared.reports.Report.{Report}
 use Rattle.bus_wire.specs.Bus.{Fixed}
 use Rattle.report_text.specs.ReportText.{AreStored}
-use Rattle.claims_report.specs.Controls.{control_of}
+use Rattle.law_devices.specs.Controls.{control_of}
 use Rattle.claims_report.specs.Reports.{is_line_of}
 use Rattle.claims_report.specs.Requests.{Request, Window, AreTold}
 use Rattle.claims_world.specs.Pending.{is_cancel}

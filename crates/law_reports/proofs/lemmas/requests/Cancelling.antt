@@ -22,7 +22,7 @@ use Rattle.law_queues.proofs.lemmas.fed_lends.Asked.{set_which}
 use Rattle.law_structures.specs.lent_structures.Structures.{StructureSets}
 use Rattle.claims_report.specs.Requests.{Request}
 use Rattle.law_ring.specs.Hand.{Hand}
-use Rattle.claims_report.specs.Controls.{control_of}
+use Rattle.law_devices.specs.Controls.{control_of}
 use Rattle.claims_world.specs.Requests.{Windows, opens}
 use Rattle.law_reports.specs.requests.driver_requests.Rows.{EndpointStays, KeepsRequests}
 use Rattle.law_reports.specs.requests.Courses.{Course, queue_in}

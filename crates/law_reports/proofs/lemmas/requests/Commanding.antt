@@ -49,7 +49,7 @@ use Rattle.law_devices.specs.ring_requests.Windows.{Queue, Lines}
 use Rattle.law_reports.specs.requests.request_bytes.Fresh.{request_places}
 use Rattle.law_reports.specs.requests.request_bytes.Held.{RequestIsHeld}
 use Rattle.law_reports.proofs.lemmas.requests.lemmas.request_bytes.Accepting.{accepted_request_is_held}
-use Rattle.claims_report.specs.Controls.{control_of}
+use Rattle.law_devices.specs.Controls.{control_of}
 use Rattle.claims_world.specs.Requests.{Windows, asks_then, numbers_of, opens}
 use Rattle.law_reports.specs.requests.driver_requests.Rows.{number_with}
 use Rattle.law_reports.proofs.lemmas.requests.lemmas.driver_requests.Ordering.{numbers_more, first_more}

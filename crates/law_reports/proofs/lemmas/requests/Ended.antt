@@ -59,7 +59,7 @@ use Rattle.law_devices.specs.ring_requests.Laid.{Places, place_at, comes, IsFres
 use Rattle.law_devices.specs.ring_requests.Runs.{first_of}
 use Rattle.law_devices.specs.ring_requests.Windows.{Queue, Lines, Sent, sent_at, HasEnded, IsActedOnce, IsBehind}
 use Rattle.law_devices.specs.request_stores.Published.{without_first}
-use Rattle.claims_report.specs.Controls.{control_of}
+use Rattle.law_devices.specs.Controls.{control_of}
 use Rattle.law_reports.specs.requests.driver_requests.Requests.{IsOfTransfer, IsLaidOut}
 use Rattle.law_reports.proofs.lemmas.requests.lemmas.driver_requests.Owning.{qtds_case, places_with_data, places_without}
 use Rattle.bus_world.specs.World.{World, driver_parts, controller_parts}

@@ -40,7 +40,7 @@ use Rattle.law_devices.specs.ring_requests.Runs.{first_of}
 use Rattle.law_queues.specs.told_endpoints.Telling.{lines_in}
 use Rattle.law_queues.proofs.lemmas.told_endpoints.Names.{same_name_is}
 use Rattle.law_reports.specs.requests.told_requests.Told.{has_cancel}
-use Rattle.claims_report.specs.Controls.{control_of}
+use Rattle.law_devices.specs.Controls.{control_of}
 use Rattle.bus_world.specs.World.{World, driver_parts}
 use Rattle.law_world.specs.steps.Streaming.{Streams, Standing}
 use Rattle.claims_world.specs.Requests.{wired, Windows, numbers_of, opens, is_opening}

@@ -25,7 +25,7 @@ use Rattle.law_structures.specs.lent_structures.Structures.{StructureSets}
 use Rattle.law_world.specs.steps.endpoint_releases.Released.{without_queue}
 use Rattle.law_world.proofs.lemmas.steps.lemmas.endpoint_releases.Owning.{queue_beside}
 use Rattle.claims_report.specs.Requests.{Request}
-use Rattle.claims_report.specs.Controls.{control_of}
+use Rattle.law_devices.specs.Controls.{control_of}
 use Rattle.law_devices.proofs.Places.{set_here, set_beside}
 use Rattle.law_queues.specs.told_endpoints.Telling.{lines_in}
 use Rattle.law_queues.proofs.lemmas.told_endpoints.Lines.{line_of_other}

@@ -42,7 +42,7 @@ use Rattle.law_ring.specs.Order.{IsAmong}
 use Rattle.law_devices.specs.ring_requests.Runs.{first_of}
 use Rattle.law_devices.specs.ring_requests.Resting.{IsStopped}
 use Rattle.law_devices.specs.ring_requests.Windows.{Queue, Lines}
-use Rattle.claims_report.specs.Controls.{control_of}
+use Rattle.law_devices.specs.Controls.{control_of}
 use Rattle.bus_world.specs.World.{World, driver_parts, controller_parts}
 use Rattle.hc_core.specs.Controller.{walk_place}
 use Rattle.law_world.specs.steps.Streaming.{Streams, Standing}

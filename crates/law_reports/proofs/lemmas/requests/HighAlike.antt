@@ -12,7 +12,7 @@ use Rattle.law_driver.specs.queued_drivers.Rows.{QueuesAlike}
 use Rattle.law_queues.specs.told_endpoints.Telling.{lines_in}
 use Rattle.law_structures.specs.lent_structures.Structures.{StructureSets}
 use Rattle.claims_report.specs.Requests.{Request}
-use Rattle.claims_report.specs.Controls.{control_of}
+use Rattle.law_devices.specs.Controls.{control_of}
 use Rattle.law_ring.specs.Hand.{Hand}
 use Rattle.law_devices.specs.ring_requests.Runs.{first_of}
 use Rattle.claims_world.specs.Requests.{Windows}

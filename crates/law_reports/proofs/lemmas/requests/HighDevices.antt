@@ -34,7 +34,7 @@ use Rattle.law_devices.proofs.lemmas.scripted_requests.Beginning.{keeps_devices}
 use Rattle.law_microframes.proofs.lemmas.visits.AskedHeads.{asked_is_near}
 use Rattle.law_microframes.specs.visits.WorldPipes.{EventOf}
 use Rattle.claims_report.specs.ControlSides.{Device}
-use Rattle.claims_report.specs.Controls.{control_of}
+use Rattle.law_devices.specs.Controls.{control_of}
 use Rattle.claims_report.specs.Requests.{Request}
 use Rattle.claims_world.specs.Requests.{wired, Windows, opens}
 use Rattle.bus_world.specs.World.{World, controller_next}

@@ -35,7 +35,7 @@ use Rattle.law_microframes.proofs.lemmas.visits.AskedHeads.{asked_is_near}
 use Rattle.law_request.specs.Host.{Endpoint as Asked}
 use Rattle.claims_report.specs.Acts.{IsOnce}
 use Rattle.claims_report.specs.ControlSides.{Device}
-use Rattle.claims_report.specs.Controls.{control_of}
+use Rattle.law_devices.specs.Controls.{control_of}
 use Rattle.claims_report.specs.Requests.{Request}
 use Rattle.claims_world.specs.Requests.{wired, endpoint_of as owner_of_transfer, Windows, side_of, acted_with, opened_by, begun_by}
 use Rattle.claims_world.specs.Requests.{acted_by, after_event, numbers_of}

@@ -30,7 +30,7 @@ use Rattle.law_driver.specs.queued_drivers.Queued.{queued_endpoint, queued}
 use Rattle.law_driver.specs.queued_drivers.Rows.{out_by}
 use Rattle.law_driver_ring.specs.fed_queues.Places.{IsMet, HasHead, AreMet}
 use Rattle.law_structures.specs.lent_structures.Structures.{StructureSets}
-use Rattle.claims_report.specs.Controls.{control_of}
+use Rattle.law_devices.specs.Controls.{control_of}
 use Rattle.claims_report.specs.Requests.{Request}
 use Rattle.law_ring.specs.Hand.{Hand}
 use Rattle.claims_world.specs.Requests.{wired, Windows, opens, is_opening, numbers_of, window_at}

@@ -14,7 +14,7 @@ use Rattle.law_driver.specs.queued_drivers.Rows.{QueuesAlike}
 use Rattle.law_driver_ring.proofs.lemmas.told_harvests.Keeping.{spared_is_done}
 use Rattle.law_queues.specs.told_endpoints.Telling.{lines_in}
 use Rattle.law_structures.specs.lent_structures.Structures.{StructureSets}
-use Rattle.claims_report.specs.Controls.{control_of}
+use Rattle.law_devices.specs.Controls.{control_of}
 use Rattle.claims_report.specs.Requests.{Request}
 use Rattle.law_ring.specs.Hand.{Hand}
 use Rattle.bus_world.specs.World.{World}

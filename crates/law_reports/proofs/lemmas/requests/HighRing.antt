@@ -37,7 +37,7 @@ use Rattle.law_devices.specs.ring_requests.Windows.{Queue, IsElsewhere, AreHigh,
 use Rattle.law_devices.specs.scripted_requests.Controls.{transacts_by, begins_by}
 use Rattle.law_devices.proofs.lemmas.scripted_requests.Asking.{a_scripted_bus_answers_by_stages}
 use Rattle.law_devices.proofs.lemmas.scripted_requests.Beginning.{keeps_devices}
-use Rattle.claims_report.specs.Controls.{control_of}
+use Rattle.law_devices.specs.Controls.{control_of}
 use Rattle.claims_report.specs.Requests.{Request}
 use Rattle.claims_world.specs.Requests.{wired, Windows}
 use Rattle.bus_world.specs.World.{World, controller_parts, controller_next}

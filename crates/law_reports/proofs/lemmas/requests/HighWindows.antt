@@ -21,7 +21,8 @@ use Rattle.claims_driver.specs.Owners.{is_descriptor}
 use Rattle.law_driver.specs.queued_drivers.Queued.{sort_of_queue, queued_transfer, queued_endpoint, queued}
 use Rattle.law_driver.proofs.lemmas.queued_drivers.CommandFields.{name_same}
 use Rattle.dev_control.specs.Stages.{Stages}
-use Rattle.claims_report.specs.Controls.{control_of, is_at}
+use Rattle.claims_report.specs.Controls.{is_at}
+use Rattle.law_devices.specs.Controls.{control_of}
 use Rattle.bus_world.specs.World.{World, controller_next}
 use Rattle.claims_world.specs.Requests.{numbers_from, numbers_of, wired, is_request, is_setup_at, setup_at, endpoint_of, Windows}
 use Rattle.claims_world.specs.Requests.{acted_with, acts_in, opened_by}

@@ -12,7 +12,7 @@ use Rattle.law_driver.specs.endpoint_lives.Lives.{told_end}
 use Rattle.law_structures.specs.lent_structures.Structures.{StructureSets}
 use Rattle.claims_report.specs.Requests.{Request}
 use Rattle.law_ring.specs.Hand.{Hand}
-use Rattle.claims_report.specs.Controls.{control_of}
+use Rattle.law_devices.specs.Controls.{control_of}
 use Rattle.claims_world.specs.Requests.{Windows}
 use Rattle.law_reports.specs.requests.driver_requests.Rows.{KeepsRequests}
 use Rattle.law_reports.specs.requests.Courses.{CoursesStand, have_queues}

@@ -29,7 +29,8 @@ use Rattle.law_devices.specs.ring_requests.Windows.{Queue, Lines, IsQueue}
 use Rattle.claims_report.specs.Reports.{acted, lines_of}
 use Rattle.claims_report.specs.Requests.{data_of, requests, Request, Window, has_acted, AreTold, AreRightRequests}
 use Rattle.claims_report.specs.ControlSides.{Device}
-use Rattle.claims_report.specs.Controls.{control_of, is_of_hub}
+use Rattle.claims_report.specs.Controls.{is_of_hub}
+use Rattle.law_devices.specs.Controls.{control_of}
 use Rattle.law_devices.proofs.lemmas.scripted_requests.Finding.{HasControl, control_found}
 use Rattle.bus_world.specs.World.{World}
 use Rattle.bus_world.specs.Budgets.{moment}

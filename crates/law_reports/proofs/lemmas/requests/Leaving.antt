@@ -17,7 +17,7 @@ use Rattle.law_queues.specs.told_endpoints.Telling.{lines_in}
 use Rattle.law_reports.specs.requests.told_requests.Told.{has_cancel}
 use Rattle.claims_report.specs.Requests.{Request}
 use Rattle.law_devices.specs.ring_requests.Runs.{first_of}
-use Rattle.claims_report.specs.Controls.{control_of}
+use Rattle.law_devices.specs.Controls.{control_of}
 use Rattle.bus_world.specs.World.{World, with_parts}
 use Rattle.law_world.specs.steps.Streaming.{Standing}
 use Rattle.claims_world.specs.Requests.{wired, Windows, numbers_of, is_opening}

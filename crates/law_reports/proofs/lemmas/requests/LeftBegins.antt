@@ -13,7 +13,7 @@ use Rattle.law_driver.proofs.Common.{waits_is}
 use Rattle.law_driver_ring.proofs.Common.{one_told}
 use Rattle.bus_wire.specs.Bus.{Fixed}
 use Rattle.claims_base.specs.Prefix.{IsPrefix}
-use Rattle.claims_report.specs.Controls.{control_of}
+use Rattle.law_devices.specs.Controls.{control_of}
 use Rattle.claims_report.specs.ControlSides.{Device}
 use Rattle.claims_report.specs.Requests.{Request, Window}
 use Rattle.claims_world.specs.Requests.{Windows, window_at}

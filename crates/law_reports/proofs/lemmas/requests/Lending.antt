@@ -39,7 +39,7 @@ use Rattle.claims_report.specs.Requests.{Request}
 use Rattle.law_devices.specs.ring_requests.Laid.{Places, AreOthers}
 use Rattle.law_reports.specs.requests.request_bytes.Fresh.{request_places}
 use Rattle.law_reports.specs.requests.request_bytes.Held.{RequestIsHeld}
-use Rattle.claims_report.specs.Controls.{control_of}
+use Rattle.law_devices.specs.Controls.{control_of}
 use Rattle.bus_world.specs.World.{World}
 use Rattle.law_world.specs.steps.Streaming.{Streams, Standing}
 use Rattle.claims_world.specs.Requests.{Windows, wired}

@@ -38,7 +38,7 @@ use Rattle.law_devices.specs.ring_requests.Laid.{Places}
 use Rattle.law_devices.specs.ring_requests.Windows.{Queue, Sent, sent_at}
 use Rattle.law_devices.proofs.lemmas.ring_requests.RestingSpared.{stale_side}
 use Rattle.dev_control.specs.Stages.{Stages}
-use Rattle.claims_report.specs.Controls.{control_of}
+use Rattle.law_devices.specs.Controls.{control_of}
 use Rattle.law_request.specs.Host.{has_data}
 use Rattle.law_reports.specs.requests.request_bytes.Fresh.{data_places, other_places, request_places, next_of}
 use Rattle.law_driver_ring.specs.told_harvests.Held.{IsDone}

@@ -15,7 +15,7 @@ use Rattle.law_structures.specs.lent_structures.Structures.{Structure, QueueHead
 use Rattle.claims_report.specs.Requests.{Request}
 use Rattle.claims_report.specs.ControlSides.{Device}
 use Rattle.law_ring.specs.Told.{HasEndpoint, Endpoint as Characteristics, endpoint_of}
-use Rattle.claims_report.specs.Controls.{control_of}
+use Rattle.law_devices.specs.Controls.{control_of}
 use Rattle.bus_world.specs.World.{World}
 use Rattle.law_world.specs.steps.Streaming.{Streams, Standing}
 use Rattle.claims_world.specs.Requests.{wired, Windows, is_opening}

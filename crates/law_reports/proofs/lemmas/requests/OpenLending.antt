@@ -10,7 +10,7 @@ use Rattle.law_driver.specs.endpoint_lives.Lives.{told_end}
 use Rattle.mem_runs.specs.Book.{holding, lend_taken}
 use Rattle.law_structures.specs.lent_structures.Structures.{Structures, StructureSets, put, QueueHead, Element}
 use Rattle.claims_report.specs.Requests.{Request}
-use Rattle.claims_report.specs.Controls.{control_of}
+use Rattle.law_devices.specs.Controls.{control_of}
 use Rattle.law_driver_ring.proofs.lemmas.told_harvests.Keeping.{spared_is_done}
 use Rattle.bus_world.specs.World.{World}
 use Rattle.law_world.specs.steps.Streaming.{Streams, Standing}

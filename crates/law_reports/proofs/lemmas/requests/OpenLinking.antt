@@ -32,7 +32,7 @@ use Rattle.law_ring.specs.Hand.{Hand}
 use Rattle.law_ring.specs.Told.{HasEndpoint, Endpoint as Characteristics}
 use Rattle.law_devices.specs.ring_requests.Windows.{Queue, IsElsewhere}
 use Rattle.law_devices.specs.ring_requests.Resting.{IsAtRest}
-use Rattle.claims_report.specs.Controls.{control_of}
+use Rattle.law_devices.specs.Controls.{control_of}
 use Rattle.law_driver_ring.proofs.lemmas.told_harvests.Keeping.{spared_is_done}
 use Rattle.law_driver_ring.specs.Linked.{with_member}
 use Rattle.law_queues.proofs.lemmas.open_laws.Standing.{member_here, member_old}

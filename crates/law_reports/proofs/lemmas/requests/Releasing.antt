@@ -31,7 +31,7 @@ use Rattle.law_ring.proofs.Returning.{those_beside}
 use Rattle.law_controller.proofs.lemmas.controlled_streams.Returning.{spares_head, spares_element}
 use Rattle.law_devices.specs.ring_requests.Laid.{Places, place_at}
 use Rattle.law_devices.specs.ring_requests.Windows.{Sent}
-use Rattle.claims_report.specs.Controls.{control_of}
+use Rattle.law_devices.specs.Controls.{control_of}
 use Rattle.law_devices.proofs.Places.{set_beside}
 use Rattle.law_driver_ring.proofs.lemmas.told_harvests.Keeping.{spared_is_done}
 use Rattle.bus_world.specs.World.{World, driver_parts}

@@ -6,7 +6,8 @@ use Rattle.bus_wire.specs.declared.seats.Seat.{Seat}
 use Rattle.bus_wire.specs.declared.seats.TokenKind.TheVariants as Tokens
 use Rattle.bus_wire.specs.Seats.{place_for}
 use Rattle.bus_wire.specs.Bus.{Bus, Wired}
-use Rattle.claims_report.specs.Controls.{control_of, control_of_device, control_of_owner, control_of_seat, control_of_place, is_at}
+use Rattle.claims_report.specs.Controls.{control_of_device, is_at}
+use Rattle.law_devices.specs.Controls.{control_of, control_of_owner, control_of_seat, control_of_place}
 use Rattle.claims_report.specs.ControlSides.{Device}
 use Rattle.law_below_hubs.specs.Seated.{device_in, end_seated}
 use Rattle.law_below_hubs.specs.SeatedControls.{control_placed, control_at}

@@ -42,7 +42,7 @@ use Rattle.law_request.specs.Host.{has_data}
 use Rattle.law_devices.specs.ring_requests.Laid.{Places, IsIdle}
 use Rattle.law_devices.specs.ring_requests.Resting.{IsStopped}
 use Rattle.law_devices.specs.ring_requests.Windows.{Queue, Lines, lines_at}
-use Rattle.claims_report.specs.Controls.{control_of}
+use Rattle.law_devices.specs.Controls.{control_of}
 use Rattle.bus_world.specs.World.{World}
 use Rattle.law_world.specs.steps.Streaming.{Streams, Standing}
 use Rattle.claims_world.specs.Requests.{Windows, wired, opens}

@@ -25,7 +25,7 @@ use Rattle.law_ring.specs.Hand.{Hand}
 use Rattle.claims_base.specs.Controller.{Base}
 use Rattle.law_devices.specs.ring_requests.Windows.{Sent, Queue, Lines, Progress, Transaction, Advance, opened, progressed, Step}
 use Rattle.law_devices.specs.ring_requests.Runs.{first_of}
-use Rattle.claims_report.specs.Controls.{control_of}
+use Rattle.law_devices.specs.Controls.{control_of}
 use Rattle.law_devices.specs.scripted_requests.Controls.{transacts_by, begins_by}
 use Rattle.bus_world.specs.World.{World, controller_parts, controller_next}
 use Rattle.claims_world.specs.Requests.{wired, endpoint_of, Windows, stages_at, side_of, acted_with, begun_by, acted_by, after_event, numbers_of}

@@ -16,7 +16,7 @@ use Rattle.drv_table.specs.Words.{to_queue_head}
 use Rattle.law_driver.specs.endpoint_lives.Lives.{is_one_of, told_end, may_meet}
 use Rattle.law_driver.proofs.lemmas.endpoint_lives.Lives.{one_of_end, one_of_others}
 use Rattle.claims_report.specs.Requests.{Request}
-use Rattle.claims_report.specs.Controls.{control_of}
+use Rattle.law_devices.specs.Controls.{control_of}
 use Rattle.law_driver_ring.proofs.lemmas.told_harvests.Keeping.{spared_is_done}
 use Rattle.law_world.specs.steps.unlinked_streams.Unlinks.{IsAtUnlink, driver_then, IsUnlinked}
 use Rattle.law_world.proofs.lemmas.steps.lemmas.unlinked_streams.Passing.{unlink_row}

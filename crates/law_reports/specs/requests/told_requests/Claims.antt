@@ -11,7 +11,7 @@ use Rattle.usb_base.specs.declared.packets.Way.TheVariants.{Ctl}
 use Rattle.script_types.specs.declared.scripts.Script.{Script}
 use Rattle.claims_report.specs.Acts.{IsOnce}
 use Rattle.claims_report.specs.ControlSides.{Device as Side}
-use Rattle.claims_report.specs.Controls.{control_of}
+use Rattle.law_devices.specs.Controls.{control_of}
 use Rattle.bus_wire.specs.Bus.{Fixed, fixed_of}
 use Rattle.claims_report.specs.Reports.{lines_of, acted}
 use Rattle.claims_report.specs.Requests.{Request, Window, data_of, requests, has_acted, AreTold, AreRightRequests}

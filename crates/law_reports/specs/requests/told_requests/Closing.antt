@@ -4,7 +4,7 @@ use Rattle.std.specs.Prelude.{◌≡◌, true, Some}
 use Rattle.usb_base.specs.declared.endpoints.EpDesc.{EpDesc}
 use Rattle.usb_base.specs.declared.packets.Way.TheVariants.{Ctl}
 use Rattle.claims_report.specs.ControlSides.{Device as Side}
-use Rattle.claims_report.specs.Controls.{control_of}
+use Rattle.law_devices.specs.Controls.{control_of}
 use Rattle.bus_wire.specs.Bus.{Fixed}
 use Rattle.claims_report.specs.Reports.{acted}
 use Rattle.drv_table.specs.DriverContent.{opened}

@@ -23,7 +23,7 @@ use Rattle.law_ring.specs.Effects.{AreBytesHeard}
 use Rattle.law_controller.specs.controlled_streams.Control.{IsOn, IsControlled, ControlEffect}
 use Rattle.law_devices.specs.ring_requests.Windows.{Queue, Lines, AreSent, AreWindows, Step, stepped, HaltedStay}
 use Rattle.law_devices.specs.control_requests.Events.{IsControlStepOf}
-use Rattle.claims_report.specs.Controls.{control_of}
+use Rattle.law_devices.specs.Controls.{control_of}
 use Rattle.law_devices.specs.scripted_requests.Controls.{transacts_by}
 use Rattle.bus_world.specs.World.{World, controller_parts}
 use Rattle.claims_world.specs.Requests.{wired}

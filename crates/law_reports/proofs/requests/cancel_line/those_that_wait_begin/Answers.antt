@@ -1,4 +1,4 @@
-use Rattle.claims_report.specs.Controls.{control_of}
+use Rattle.law_devices.specs.Controls.{control_of}
 use Rattle.law_reports.proofs.lemmas.requests.CancelWaits.{course_begins, met_begins, waits_are_unreported}
 use Rattle.law_reports.proofs.requests.cancel_line.those_that_wait_begin.Goals as goal
 

@@ -18,7 +18,7 @@ use Rattle.claims_base.specs.Controller.{opening_base}
 use Rattle.claims_base.specs.Prefix.{IsPrefix}
 use Rattle.claims_driver.specs.Scripts.{receives}
 use Rattle.claims_report.specs.Streams.{told_in, has_stream}
-use Rattle.claims_world.specs.BelowStreams.{is_bulk, is_out_below}
+use Rattle.claims_world.specs.BelowStreams.{is_out_below}
 use Rattle.drv_table.specs.declared.content.Endpoint.{Endpoint}
 use Rattle.drv_table.specs.Kinds.{is_iso}
 use Rattle.drv_table.specs.Words.{is_high}
@@ -67,10 +67,6 @@ use Rattle.law_reports.proofs.lemmas.pipes.lemmas.puts.Event.{controlled_pays, s
 use Rattle.law_reports.proofs.lemmas.pipes.lemmas.puts.Steps.{part_at}
 
 -- ---- kinds
-
-pub bulk_is : (kind : EpKind) → is_bulk kind ≡ true → kind ≡ kinds.Bulk
-bulk_is kinds.Bulk is = refl
-bulk_is _ is = absurd (false≢true is)
 
 pub claimed_stream : (x : EpDesc) → is_out_below x ≡ true → has_stream x.kind ≡ true
 claimed_stream x is = (and_parts (has_stream x.kind) (not (is_high x.speed) && not (receives x.name.way)) is).0

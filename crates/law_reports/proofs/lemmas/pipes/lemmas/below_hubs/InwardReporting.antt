@@ -52,7 +52,6 @@ use Rattle.law_reports.specs.pipes.below_hubs.BehindLaws.{spots_of}
 use Rattle.claims_world.specs.BelowStreams.{is_in_below}
 use Rattle.law_reports.specs.pipes.below_hubs.Inward.{is_inlet, Begins, IsSpared, HasInward}
 use Rattle.law_reports.specs.pipes.below_hubs.InwardLaws.{inlet_of, takes_in, IsInletOf, HasItsInlet, CompletesInTime, IsInwardAt, TextsKeepInsBelow, TextsKeepTimelyIns, TextsKeepIns}
-use Rattle.law_reports.proofs.lemmas.pipes.lemmas.below_hubs.BehindControlled.{bulk_is}
 use Rattle.law_reports.proofs.lemmas.pipes.lemmas.below_hubs.BehindMoments.{texts_are_behind}
 use Rattle.law_reports.proofs.lemmas.pipes.lemmas.below_hubs.InwardControlled.{in_stream}
 use Rattle.law_reports.proofs.lemmas.pipes.lemmas.below_hubs.InwardDriven.{in_begun}

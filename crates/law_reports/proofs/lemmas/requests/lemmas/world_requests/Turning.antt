@@ -16,7 +16,7 @@ use Rattle.bus_wire.specs.Bus.{Bus, Wired, Fixed}
 use Rattle.claims_base.specs.Controller.{Base}
 use Rattle.law_devices.specs.control_requests.Events.{ControlWindowsGoOn}
 use Rattle.law_devices.proofs.lemmas.control_requests.Keeping.{an_event_keeps_the_windows}
-use Rattle.claims_report.specs.Controls.{control_of}
+use Rattle.law_devices.specs.Controls.{control_of}
 use Rattle.law_devices.specs.scripted_requests.Controls.{transacts_by, begins_by}
 use Rattle.law_devices.proofs.lemmas.scripted_requests.Asking.{a_scripted_bus_answers_by_stages}
 use Rattle.law_devices.proofs.lemmas.scripted_requests.Beginning.{keeps_devices}
