@@ -16,8 +16,8 @@ CALL = CRATES / "ehci_cli/src/program.rt"
 # What each clause says, in the order in which one reads them.
 SAYS = {
     "headline": "The theorem in one sentence, part by part; the clauses below say each part in full, and of more endpoints and moments. `PrintsStreams`: the bytes that the printed report tells of an endpoint begin its stream, until a line "
-                "tells its end: of each bulk and interrupt endpoint at high speed, of each OUT endpoint of either kind behind a port of a hub of the script, and of each bulk IN endpoint there, where no `control` line to that hub clears a "
-                "buffer (CLEAR_TT_BUFFER) or resets a translator (RESET_TT). `ActsOnRequests`: the requests of each control endpoint at high speed of a device that is no hub are right, unless it was cancelled. `AdmitsAtWork`: the open of a "
+                "tells its end: of each bulk and interrupt endpoint at high speed, of each OUT endpoint of either kind behind a port of a hub of the script, and of each IN endpoint there, where no `control` line to that hub clears a "
+                "buffer (CLEAR_TT_BUFFER) or resets a translator (RESET_TT). `ActsOnRequests`: the requests of each control endpoint at high speed of a device that is no hub are right. `AdmitsAtWork`: the open of a "
                 "periodic endpoint that passes the checks before is refused for want of a placement exactly where each that it may have breaks a budget. `DoesWhatIsDue`: of each periodic endpoint of which no cancel was accepted, in a "
                 "microframe that isn't held, where no more than 4 microseconds went for complete-splits made again, what is due as the microframe begins is done in it. At high speed the packet of an interrupt endpoint moves, where its "
                 "device is ready and none of its packets is lost, and the slot of an iTD is written back; behind hubs the split transactions of interrupt and isochronous endpoints are made, and what the device of an interrupt endpoint "
@@ -90,7 +90,8 @@ SAYS = {
                     "that, or NYET in this one. And where the translator of its hub and port had its whole start-split once the walk of the frames "
                     "was over in that microframe, its hub hasn't heard last to clear a buffer or to reset a translator since, and neither a "
                     "complete-split of it nor the answer to one is lost: by the end of the walk of the frames in the last microframe of its C-mask "
-                    "the host heard in a complete-split what the device said to the translator. So it is, whatever the translator had, where the start-split isn't lost either and its hub heard no such request last in that microframe; "
+                    "the host heard in a complete-split what the device said to the translator. So it is, whatever the translator had, where the "
+                    "start-split isn't lost either and its hub heard no such request last in that microframe; "
                     "and where that is data with the queue head's toggle for which it has room, or the acknowledgement of what it sent, these bytes moved.",
     "sitds": "Once the walk of the frames is over in a microframe that isn't held, where no more than 4 microseconds went for complete-splits made "
              "again: the siTDs to which it came with a transaction to be made in this microframe are those that were written back after it, one for "
