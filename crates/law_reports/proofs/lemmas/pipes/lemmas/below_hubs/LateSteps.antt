@@ -1,6 +1,6 @@
 -- A host that waits too long comes to no complete-split of the frame: an event of the controller, by its row (EHCI 1.0, 4.4, 4.6, 4.10 and
 -- 4.12.2.4.1).
-use Rattle.std.proofs.Common.{◌≡◌, ◌≢◌, ℕ, zero, suc, ◌+◌, ◌*◌, ◌/◌, ◌%◌, ◌<◌, ◌⊎◌}
+use Rattle.std.proofs.Common.{◌≡◌, ◌≢◌, ℕ, zero, suc, ◌+◌, ◌*◌, ◌/◌, ◌%◌, ◌^◌, ◌<◌, ◌⊎◌}
 use Rattle.std.proofs.Common.{Bool, true, false, inl, inr, List, [], ◌∷◌, Option, Some, None}
 use Rattle.std.proofs.Common.{⊎_elim, ap, refl, sym, subst, ◌∙◌, arith}
 use Rattle.std.proofs.lemmas.Bool.{true≢false, false≢true, cases_eq}
@@ -24,6 +24,7 @@ use Rattle.law_descriptors.specs.Both.{both}
 use Rattle.law_descriptors.specs.Meeting.{met}
 use Rattle.link_words.specs.declared.kinds.Link.{Link}
 use Rattle.link_words.specs.declared.kinds.Link.TheVariants as links
+use Rattle.op_registers.specs.RegisterFile.{levels_of}
 use Rattle.op_registers.specs.Events.{next_index, after_begin}
 use Rattle.periodic_walk.specs.declared.chain.ChainRow.{ChainRow}
 use Rattle.periodic_walk.specs.declared.chain.ChainRow.TheVariants as chains
@@ -146,9 +147,12 @@ module _ (w : World) where
   led_in true allowed run = λ f n led. led
   led_in false allowed run = absurd (false≢true run)
 
-  came_in : (reached allowed : Bool) → (begun_at reached allowed stepped).registers.run ≡ true → CameIn w (begun_at reached allowed stepped)
-  came_in true allowed run = λ n t. t.leads
-  came_in false allowed run = absurd (false≢true run)
+  came_in : w.registers.list_size ≡ 0 → (reached allowed : Bool) → (begun_at reached allowed stepped).registers.run ≡ true
+      → CameIn w (begun_at reached allowed stepped)
+  came_in size true allowed run = λ n t.
+      subst (λ (m : ℕ). IsLedTo w.memory n (next_of w.memory ((after_begin w.registers).periodic_list_base
+      + 4 * ((after_begin w.registers).frame_index / 8 % 2 ^ levels_of m)))) size t.leads
+  came_in size false allowed run = absurd (false≢true run)
 
 -- ---- at a moment
 
@@ -217,7 +221,7 @@ module _ (text : List ℕ) (s : Script) (spelled : Spells text s) (k n : ℕ) wh
     came_then : IsToCome new.memory new.control n → IsInChain w (frame_in new.control.frame.index) n
     came_then t =
         subst (λ (d : Content). IsInChain w (frame_in d.control.frame.index) n) (sym parts_are)
-        (came_in w _ (is_allowed (fixed_of s) w.bus) runs n (subst (λ (d : Content). IsToCome d.memory d.control n) parts_are t))
+        (came_in w (ap (λ (b : Base). b.list_size) mixed.mixed.now.framed.runs.ring.registers) _ (is_allowed (fixed_of s) w.bus) runs n (subst (λ (d : Content). IsToCome d.memory d.control n) parts_are t))
 
     index_next : new.control.frame.index ≡ next_index w.control.frame.index
     index_next = begins_index (fixed_of s) w (shows_index text s spelled k) row then_mixed index_then
