@@ -6,3 +6,4 @@ pub mod Framed
 pub mod Splits
 pub mod SplitSamples
 pub mod SplitsFollow
+pub mod SplitsTaken

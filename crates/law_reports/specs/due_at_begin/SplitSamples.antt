@@ -5,10 +5,12 @@
 --     made_in w k            the transactions that were written back in the microframe until then
 --     its_queue              the byte address of the keyboard's queue head
 --     its_head w             the keyboard's queue head in memory
+--     pressed_head           it, as microframe 2 begins in which the host hears that a key is down
+--     other_toggle q         the queue head q, but that its toggle is the other one
 --     eight_bytes            what the keyboard tells
 --     too_late               the world in which the keyboard's queue head waits for its complete-splits, but that microframe 3 of frame
 --                            128 is about to begin: microframe 2 has had none
-use Rattle.std.specs.Prelude.{ℕ, List, [], ◌∷◌}
+use Rattle.std.specs.Prelude.{ℕ, not, List, [], ◌∷◌}
 use Rattle.word_mem.specs.Views.{words_at}
 use Rattle.qh_qtd.specs.declared.queue_head.Qh.{Qh}
 use Rattle.qh_qtd.specs.QueueHead.{qh_at}
@@ -18,7 +20,7 @@ use Rattle.bus_world.specs.Orders.{ticks}
 use Rattle.claims_world.specs.Carried.{carried_from}
 use Rattle.claims_world.specs.QueuesMade.{QueueMade, made_next}
 use Rattle.law_world.specs.memory.Samples.{keyboard_and_disk, typed_at}
-use Rattle.law_microframes.specs.due.repeats.Samples.{waiting, waits_in}
+use Rattle.law_microframes.specs.due.repeats.Samples.{waiting, waits_in, pressed}
 
 abbrev pub starting : World
 starting = record (typed_at 25) { registers = record (typed_at 25).registers { frame_index = 1023 } }
@@ -37,6 +39,12 @@ its_queue = 4160
 
 abbrev pub its_head : World → Qh
 its_head w = qh_at (words_at w.memory its_queue 12)
+
+abbrev pub pressed_head : Qh
+pressed_head = its_head (started_in pressed 1)
+
+abbrev pub other_toggle : Qh → Qh
+other_toggle q = record q { token = record q.token { toggle = not q.token.toggle } }
 
 abbrev pub eight_bytes : List ℕ
 eight_bytes = 0 ∷ 0 ∷ 4 ∷ 0 ∷ 0 ∷ 0 ∷ 0 ∷ 0 ∷ []

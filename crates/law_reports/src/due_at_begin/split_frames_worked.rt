@@ -7,7 +7,8 @@ ghost use Rattle.claims_world.specs.Results.{IsToldBy};
 ghost use Rattle.law_world.specs.memory.Samples.{keyboard};
 ghost use Rattle.law_microframes.specs.due.repeats.Samples.{waiting, pressed};
 ghost use Rattle.claims_world.specs.SplitFrames.{IsAnswer, IsNotYet, IsEntryOf, HasCome, IsDoneBy};
-ghost use Rattle.law_reports.specs.due_at_begin.SplitSamples.{starting, started_in, made_in, its_queue};
+ghost use Rattle.law_reports.specs.due_at_begin.SplitSamples.{starting, started_in, made_in, its_queue, pressed_head, other_toggle};
+ghost use Rattle.law_reports.specs.due_at_begin.SplitsTaken.{IsDoneOf};
 
 /// Once the walk of the frames is over in microframe 0 the keyboard's start-split has come to its translator; before it was made it hadn't.
 pub fn a_start_split_comes()
@@ -28,4 +29,10 @@ pub fn a_device_is_heard()
 pub fn a_split_is_done()
     ensures done { IsDoneBy (started_in pressed 1) its_queue keyboard (made_in pressed 4) }
     ensures not_yet { IsDoneBy (started_in pressed 1) its_queue keyboard (made_in pressed 3) → ⊥ }
+{}
+
+/// What it moved is of its queue head as microframe 2 began; of one with the other toggle it isn't.
+pub fn a_split_is_taken()
+    ensures taken { IsDoneOf pressed_head (started_in pressed 1) its_queue keyboard (made_in pressed 4) }
+    ensures other { IsDoneOf (other_toggle pressed_head) (started_in pressed 1) its_queue keyboard (made_in pressed 4) → ⊥ }
 {}

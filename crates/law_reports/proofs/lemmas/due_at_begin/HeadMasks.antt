@@ -1,4 +1,5 @@
--- The queue head of an interrupt endpoint has the masks of the endpoint's placement (EHCI 1.0, 3.6.2 and 4.12.2.1).
+-- The queue head of an interrupt endpoint has the masks of the endpoint's placement, and the length of its packets (EHCI 1.0, 3.6.2 and
+-- 4.12.2.1).
 use Rattle.std.proofs.Common.{◌≡◌, ℕ, ◌+◌, ◌*◌, Some, ◌∙◌}
 use Rattle.word_mem.specs.Memory.{word_at}
 use Rattle.qh_qtd.specs.declared.queue_head.Qh.{Qh}
@@ -18,6 +19,14 @@ pub record HasPlaced (p : Placement) (v : Qh) : Type 0 where
 abbrev pub MasksHold : World → Type 0
 MasksHold w = (e q : ℕ) (p : Placement) → IsInItsFrames w.driver e q p → (v : Qh) → queue_head_at_address w.memory (32 * q) ≡ Some v
     → HasPlaced p v
+
+abbrev pub PacketsHold : World → Type 0
+PacketsHold w = (e q : ℕ) (p : Placement) (i : IsInItsFrames w.driver e q p) (v : Qh) → queue_head_at_address w.memory (32 * q) ≡ Some v
+    → v.max ≡ i.endpoint.desc.max
+
+pub packets_hold : (w : World) → IsMixedWorld w → HeadsHaveFields w.driver w.memory → PacketsHold w
+packets_hold w k heads e q p i v is =
+    (read_fields w.memory (32 * q) v is).longest ∙ (its_words w k heads e q p i).longest
 
 pub masks_hold : (w : World) → IsMixedWorld w → HeadsHaveFields w.driver w.memory → MasksHold w
 masks_hold w k heads e q p i v is =

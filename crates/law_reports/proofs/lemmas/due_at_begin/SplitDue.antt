@@ -29,11 +29,13 @@ use Rattle.law_microframes.specs.due.repeats.Hearing.{IsHeardOn}
 use Rattle.law_microframes.specs.visits.Belonging.{HaveFields, HeadsHaveFields}
 use Rattle.law_microframes.proofs.lemmas.visits.BelongReads.{HasReadFields, read_fields}
 use Rattle.law_reports.specs.due_at_begin.Splits.{TextsMakeSplits}
+use Rattle.law_reports.specs.due_at_begin.SplitsTaken.{IsAsFar}
 use Rattle.law_reports.proofs.lemmas.due_at_begin.Aside.{its_words}
 use Rattle.law_reports.proofs.lemmas.due_at_begin.SplitHeads.{IsHeadOf, not_high}
 use Rattle.law_reports.proofs.lemmas.due_at_begin.SplitStages.{reply_to}
 use Rattle.law_reports.proofs.lemmas.due_at_begin.SplitTurns.{IsAsDue, itself_as_due, waits_same, missed_same, made_as_due}
 use Rattle.law_reports.proofs.lemmas.due_at_begin.SplitTurns.{IsWaitingSplit, waiting_split, start_comes}
+use Rattle.law_reports.proofs.lemmas.due_at_begin.SplitTurns.{left_as, as_far_as, far_as_due, start_far}
 use Rattle.law_reports.proofs.lemmas.due_at_begin.SplitTurns.{complete_comes, start_made, complete_made}
 use Rattle.law_reports.proofs.lemmas.due_at_begin.SplitMoments.{IsDueOf}
 use Rattle.law_reports.proofs.lemmas.due_at_begin.SplitRuns.{splits_are_made}
@@ -50,23 +52,27 @@ abbrev pub Anything : Bus → Type 0
 Anything b = Unit {0}
 
 -- what it comes to has the queue head's masks
-record HasComeTo (q v : Qh) : Type 0 where
-  eps : v.eps ≡ q.eps
-  smask : v.smask ≡ q.smask
-  work : IsActiveToken v.token
+pub record HasComeTo (q v : Qh) : Type 0 where
+  pub eps : v.eps ≡ q.eps
+  pub longest : v.max ≡ q.max
+  pub smask : v.smask ≡ q.smask
+  pub work : IsActiveToken v.token
 
-has_come_to : (m : Mem) (q v : Qh) → ComesTo m q v → HasComeTo q v
+pub has_come_to : (m : Mem) (q v : Qh) → ComesTo m q v → HasComeTo q v
 unfolding advanced
-has_come_to m q _ (goes_on work) = record { eps = refl; smask = refl; work = work }
+has_come_to m q _ (goes_on work) = record { eps = refl; longest = refl; smask = refl; work = work }
 has_come_to m q _ (takes a t idle unhalted leads here work) = record {
   eps = refl;
+  longest = refl;
   smask = refl;
   work = record { active = work.active; unhalted = work.unhalted };
 }
 
-pub record IsStartedWaiting (n f : ℕ) (m : QueueMade) : Type 0 where
+-- .. and left the queue head as far as v
+pub record IsStartedWaiting (v : Qh) (n f : ℕ) (m : QueueMade) : Type 0 where
   pub started : IsStarted n f m
   pub wait : m.outcome ≡ Wait
+  pub far : IsAsFar v m.queue
 
 -- its start-split comes next
 pub record IsUnsplit (q : Qh) : Type 0 where
@@ -140,7 +146,7 @@ module _ (fixed : Fixed) (b : World) (k : IsMixedWorld b) (heads : HeadsHaveFiel
 
   -- .. and comes to nothing but to wait
   pub start_waits_due : (d : IsStartDue fixed b e q)
-      → IsDueOf fixed b e q d.split.there.endpoint.desc Anything (IsStartedWaiting (32 * q) b.control.frame.index)
+      → IsDueOf fixed b e q d.split.there.endpoint.desc Anything (IsStartedWaiting d.works (32 * q) b.control.frame.index)
   unfolding start_due
   start_waits_due d =
       let c : HasComeTo d.split.queue d.works = has_come_to b.memory d.split.queue d.works d.next in
@@ -163,6 +169,9 @@ module _ (fixed : Fixed) (b : World) (k : IsMixedWorld b) (heads : HeadsHaveFiel
             started = n.due.leaves z same head on hears any out last is;
             wait = start_waits z out last (reply_to fixed on z out last) (ap (λ (i : ℕ). i == 2) (same.eps ∙ c.eps) ∙ low d.split)
                 (ap (λ (t : Token). t.split_state) same.token ∙ d.unsplit);
+            far = as_far_as d.works z (left_as b.control.frame.index z out last (reply_to fixed on z out last)) (far_as_due d.works z same)
+                (start_far b.control.frame.index (32 * q) z out last (reply_to fixed on z out last)
+                (ap (λ (i : ℕ). i == 2) (same.eps ∙ c.eps) ∙ low d.split) (ap (λ (t : Token). t.split_state) same.token ∙ d.unsplit));
           };
         };
         bus = tt;
@@ -170,7 +179,8 @@ module _ (fixed : Fixed) (b : World) (k : IsMixedWorld b) (heads : HeadsHaveFiel
 
   -- .. where B holds of the bus
   pub start_on : (d : IsStartDue fixed b e q) (B : Bus → Type 0) → B b.bus
-      → (i : IsDueOf fixed b e q d.split.there.endpoint.desc B (IsStartedWaiting (32 * q) b.control.frame.index)) × IsUnsplit i.queue
+      → (i : IsDueOf fixed b e q d.split.there.endpoint.desc B (IsStartedWaiting d.works (32 * q) b.control.frame.index))
+      × IsUnsplit i.queue
   unfolding start_due start_waits_due
   start_on d B bus =
       let c : HasComeTo d.split.queue d.works = has_come_to b.memory d.split.queue d.works d.next in

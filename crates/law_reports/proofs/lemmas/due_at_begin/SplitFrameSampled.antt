@@ -1,6 +1,7 @@
 -- The keyboard's start-split in its translator, and what is heard in its first complete-split.
-use Rattle.std.proofs.Common.{◌≡◌, ℕ, List, [], length, Option, Some, None, ap, refl, sym, subst, inl, ◌∙◌}
+use Rattle.std.proofs.Common.{◌≡◌, ℕ, List, [], length, Option, Some, None, not, false, ap, refl, sym, subst, inl, ◌∙◌}
 use Rattle.std.specs.List.{find}
+use Rattle.std.proofs.lemmas.Bool.{false≢true}
 use Rattle.std.proofs.lemmas.Option.{same_Some}
 use Rattle.usb_base.specs.declared.packets.Pid.TheVariants as pids
 use Rattle.usb_base.specs.declared.packets.Reply.{Reply}
@@ -23,6 +24,7 @@ use Rattle.qh_qtd.specs.declared.queue_head.Qh.{Qh}
 use Rattle.qh_qtd.specs.Token.{token_word, token_at}
 use Rattle.qh_qtd.specs.Qtd.{qtd_words, qtd_read, qtd_bad, qtd_at}
 use Rattle.qh_qtd.specs.QueueHead.{qh_words, qh_read, qh_bad, qh_at}
+use Rattle.mem_queues.specs.Structures.{queue_head_at_address}
 use Rattle.mem_bytes.specs.Bytes.{places, all_reached, reached, stored, words_from, put_byte, put_bytes}
 use Rattle.mem_runs.specs.Book.{lend_runs, store_words}
 use Rattle.hc_masks.specs.Masks.{lacks}
@@ -38,6 +40,8 @@ use Rattle.law_world.specs.memory.Samples.{keyboard}
 use Rattle.law_microframes.specs.due.repeats.Samples.{waiting, pressed}
 use Rattle.claims_world.specs.SplitFrames.{IsAnswer, IsNotYet, IsEntryOf, HasCome, IsDoneBy}
 use Rattle.law_reports.specs.due_at_begin.SplitSamples.{starting, started_in, made_in, its_queue, eight_bytes, its_head}
+use Rattle.law_reports.specs.due_at_begin.SplitSamples.{pressed_head, other_toggle}
+use Rattle.law_reports.specs.due_at_begin.SplitsTaken.{IsDoneOf}
 use Rattle.law_reports.proofs.lemmas.due_at_begin.ResultSampled.{result_is_taken, result_isnt_taken}
 
 -- ---- the start-split comes
@@ -143,6 +147,45 @@ split_is_done = record {
   taken = λ reply bytes made moves.
       subst Taken (eight_moved (its_head (started_in pressed 1)) reply bytes made moves) result_is_taken;
 }
+
+-- .. of the queue head as its microframe began
+
+taken_so : (reply : Reply) (bytes : ℕ) → split_is_done.entry.exchange ≡ Made reply
+    → MovesBy pressed_head keyboard.name.way (result_of reply) bytes → Taken bytes
+unfolding split_is_done
+taken_so reply bytes made moves = split_is_done.taken reply bytes made moves
+
+pub split_is_taken : IsDoneOf pressed_head (started_in pressed 1) its_queue keyboard (made_in pressed 4)
+unfolding split_is_done
+split_is_taken = record {
+  done = split_is_done;
+  far = record { toggle = refl; left = refl };
+  packets = refl;
+  taken = taken_so;
+}
+
+-- one with the other toggle isn't as far
+read_so : queue_head_at_address (started_in pressed 1).memory its_queue ≡ Some (its_head (started_in pressed 1))
+unfolding ticks carried_from lowest_run filled with_words_in store_words lend_runs qh_words qtd_words token_word token_at link_word
+    qtd_link_word
+    predecessors frames word_after before_the behind_the link_read qtd_link_read qh_read qh_bad qh_at qtd_read qtd_bad qtd_at
+    first_bad_bit words_in advanced lacks with_split settled_queue moved missed_queue written_back raised overlay_after
+    stored put_bytes put_byte places words_from all_reached reached
+read_so = refl
+
+toggle_so : (its_head (started_in pressed 1)).token.toggle ≡ false
+unfolding ticks carried_from lowest_run filled with_words_in store_words lend_runs qh_words qtd_words token_word token_at link_word
+    qtd_link_word
+    predecessors frames word_after before_the behind_the link_read qtd_link_read qh_read qh_bad qh_at qtd_read qtd_bad qtd_at
+    first_bad_bit words_in advanced lacks with_split settled_queue moved missed_queue written_back raised overlay_after
+    stored put_bytes put_byte places words_from all_reached reached
+toggle_so = refl
+
+pub other_isnt_taken : IsDoneOf (other_toggle pressed_head) (started_in pressed 1) its_queue keyboard (made_in pressed 4) → ⊥
+other_isnt_taken d =
+    let same : its_head (started_in pressed 1) ≡ d.done.queue =
+    same_Some (its_head (started_in pressed 1)) d.done.queue (sym read_so ∙ d.done.read) in
+    false≢true (sym toggle_so ∙ ap (λ (q : Qh). q.token.toggle) same ∙ d.far.toggle ∙ ap not toggle_so)
 
 none_made : (n : ℕ) (e : Entry) → HasMade (IsToldBy n e) [] → ⊥
 none_made n e was = was

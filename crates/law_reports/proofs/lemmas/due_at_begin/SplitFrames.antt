@@ -38,13 +38,14 @@ use Rattle.law_microframes.proofs.lemmas.time.SplitMasked.{scripts_keep_allowed}
 use Rattle.law_microframes.proofs.lemmas.translators.FrameIndex.{HasFrameIndex}
 use Rattle.law_microframes.proofs.lemmas.visits.BelongReads.{HasReadFields, read_fields}
 use Rattle.claims_world.specs.SplitFrames.{IsOneFrame, IsAnswer, IsNotYet, WasAnswered, SplitsFollowInFrame, CompletesAreAnswered}
+use Rattle.law_reports.specs.due_at_begin.SplitsTaken.{IsAsFar}
 use Rattle.law_reports.specs.pipes.Declared.{sides_of}
 use Rattle.law_reports.proofs.lemmas.due_at_begin.Aside.{its_words}
 use Rattle.law_reports.proofs.lemmas.due_at_begin.BegunMoments.{so_as_begun, BeginsNow, begun_then}
 use Rattle.law_reports.proofs.lemmas.due_at_begin.FrameIndex.{begins_index, has_index, shows_index, HasStayed, stays_then, next_in_frame}
 use Rattle.law_reports.proofs.lemmas.due_at_begin.FrameMasks.{none_over, rest_lacks, done_lacks, none_lacks, IsOnTime, is_on_time}
 use Rattle.law_reports.proofs.lemmas.due_at_begin.FrameMasks.{none_missed, IsNextOf, next_on_time, started_on_time}
-use Rattle.law_reports.proofs.lemmas.due_at_begin.HeadMasks.{HasPlaced, MasksHold, masks_hold}
+use Rattle.law_reports.proofs.lemmas.due_at_begin.HeadMasks.{HasPlaced, MasksHold, masks_hold, PacketsHold, packets_hold}
 use Rattle.law_reports.proofs.lemmas.due_at_begin.Moments.{known_at, heads_at}
 use Rattle.law_reports.proofs.lemmas.due_at_begin.NotYet.{GoesOn, is_answered, was_last, is_left, completes_go_on}
 use Rattle.law_reports.proofs.lemmas.due_at_begin.Resting.{IsResting, is_apart, controller_rests}
@@ -52,6 +53,7 @@ use Rattle.law_reports.proofs.lemmas.due_at_begin.RestingMicroframes.{RestsFrom,
 use Rattle.law_reports.proofs.lemmas.due_at_begin.RestingMoments.{classic, out_apart, begin_part}
 use Rattle.law_reports.proofs.lemmas.due_at_begin.SplitOrder.{StartsFirst, starts_first}
 use Rattle.law_reports.proofs.lemmas.due_at_begin.SplitTurns.{itself_as_due, waits_same, missed_same, waiting_split}
+use Rattle.law_reports.proofs.lemmas.due_at_begin.SplitTurns.{as_far_as, far_as_due}
 use Rattle.law_reports.proofs.lemmas.due_at_begin.StartedMoments.{StartLeft, start_left}
 use Rattle.law_reports.proofs.lemmas.due_at_begin.WrittenMoments.{HasLeft, IsSince, since_at}
 
@@ -60,9 +62,9 @@ use Rattle.law_reports.proofs.lemmas.due_at_begin.WrittenMoments.{HasLeft, IsSin
 abbrev pub OrderHolds : World → Type 0
 OrderHolds w = (e q : ℕ) (p : Placement) (i : IsInItsFrames w.driver e q p) → is_classic i.endpoint.desc.speed ≡ true → StartsFirst p
 
--- ---- it waits as a microframe begins, and none was missed
+-- ---- it waits as a microframe begins, none was missed, and it is as far as v
 
-pub record IsWaitingAt (b : World) (e q : ℕ) (p : Placement) : Type 0 where
+pub record IsWaitingAt (b : World) (e q : ℕ) (p : Placement) (v : Qh) : Type 0 where
   pub there : IsInItsFrames b.driver e q p
   pub active : is_active p (frame_in b.control.frame.index) ≡ true
   pub classic : is_classic there.endpoint.desc.speed ≡ true
@@ -70,13 +72,14 @@ pub record IsWaitingAt (b : World) (e q : ℕ) (p : Placement) : Type 0 where
   pub read : queue_head_at_address b.memory (32 * q) ≡ Some queue
   pub waiting : waits queue ≡ true
   pub unmissed : is_missed b.control.frame.index queue ≡ false
+  pub far : IsAsFar v queue
 
 -- where A tells of a moment that an answer was heard
-pub data Story (s : Script) (A : ℕ → Type 0) (i k e q : ℕ) (p : Placement) : Type 0 where
-  in_start : begun s k ≡ begun s i → Story s A i k e q p
-  is_waiting : IsWaitingAt (begun s k) e q p → Story s A i k e q p
-  has_answer : (at : ℕ) → i ≤ at → at < k → A at → Story s A i k e q p
-  is_over : (u : ℕ) → is_last p.cmask u ≡ true → u < microframe_of (begun s k).control.frame.index → Story s A i k e q p
+pub data Story (s : Script) (A : ℕ → Type 0) (i k e q : ℕ) (p : Placement) (v : Qh) : Type 0 where
+  in_start : begun s k ≡ begun s i → Story s A i k e q p v
+  is_waiting : IsWaitingAt (begun s k) e q p v → Story s A i k e q p v
+  has_answer : (at : ℕ) → i ≤ at → at < k → A at → Story s A i k e q p v
+  is_over : (u : ℕ) → is_last p.cmask u ≡ true → u < microframe_of (begun s k).control.frame.index → Story s A i k e q p v
 
 complete_rests : (f : ℕ) (v : Qh) → waits v ≡ true → is_missed f v ≡ false → has v.cmask (microframe_of f) ≡ false → turn_of f v ≡ turns.Rest
 complete_rests f v waiting unmissed off =
@@ -90,6 +93,11 @@ module _ (text : List ℕ) (s : Script) (spelled : Spells text s) where
       so_as_begun MasksHold s (λ e q p i v is. let none = i.here in cc)
       (λ j. masks_hold (moment s j).world (texts_stay_mixed text s spelled j) (heads_at text s spelled j)) k
 
+  pub packets_begun : (k : ℕ) → PacketsHold (begun s k)
+  packets_begun k =
+      so_as_begun PacketsHold s (λ e q p i v is. let none = i.here in cc)
+      (λ j. packets_hold (moment s j).world (texts_stay_mixed text s spelled j) (heads_at text s spelled j)) k
+
   pub order_begun : (k : ℕ) → OrderHolds (begun s k)
   order_begun k =
       so_as_begun OrderHolds s (λ e q p i slow. let none = i.here in cc)
@@ -97,9 +105,9 @@ module _ (text : List ℕ) (s : Script) (spelled : Spells text s) where
 
   -- ---- the next microframe begins
 
-  module _ (A : ℕ → Type 0) (i k e q : ℕ) (r : Placement) (n : BeginsNow s k) (less : i ≤ k) (one : IsOneFrame s i (suc k))
+  module _ (A : ℕ → Type 0) (i k e q : ℕ) (r : Placement) (first : Qh) (n : BeginsNow s k) (less : i ≤ k) (one : IsOneFrame s i (suc k))
       (off : IsUncancelled (moment s k).world.driver e)
-      (resolves : IsPastFrames (moment s k).world → (c : IsCompleteDue (fixed_of s) (begun s k) e q)
+      (resolves : IsPastFrames (moment s k).world → (c : IsCompleteDue (fixed_of s) (begun s k) e q) → IsAsFar first c.split.queue
       → has r.cmask (microframe_of (begun s k).control.frame.index) ≡ true → GoesOn (A k) c.split.queue (32 * q) (begun s k).control.frame.index (queues_made s k)) where
     abbrev w : World
     w = (moment s k).world
@@ -135,11 +143,11 @@ module _ (text : List ℕ) (s : Script) (spelled : Spells text s) where
     few : repeats s k ≤ 4000000
     few = one.few k less (omega arith)
 
-    waits_new : (p : Placement) (v : Qh) → waits v ≡ true
+    waits_new : (p : Placement) (v u : Qh) → IsAsFar u v → waits v ≡ true
         → IsOnTime (controller_next (fixed_of s) (moment s k).world).control.frame.index v
         → is_active p (frame_in (moment s k).world.control.frame.index) ≡ true → IsResting (moment s k).world e q p v
-        → IsWaitingAt (controller_next (fixed_of s) (moment s k).world) e q p
-    waits_new p v waiting time active r =
+        → IsWaitingAt (controller_next (fixed_of s) (moment s k).world) e q p u
+    waits_new p v u far waiting time active r =
         let b : IsResting (controller_next (fixed_of s) (moment s k).world) e q p v =
         controller_rests (fixed_of s) (sides_of s) (began s k) w (so_far s k) (known_at text s spelled k) mixed_new e q p v
         (waiting_split v waiting).work (λ on is. absurd (never_periodic on)) r in
@@ -157,14 +165,15 @@ module _ (text : List ℕ) (s : Script) (spelled : Spells text s) where
           read = b.stands.read;
           waiting = waits_same v h b.stands.due ∙ waiting;
           unmissed = missed_same new.control.frame.index v h b.stands.due ∙ none_missed new.control.frame.index v time;
+          far = as_far_as u v h far (far_as_due v h b.stands.due);
         }
 
     -- its start-split was made in this microframe
     start_now : (d : IsStartDue (fixed_of s) (begun s k) e q)
-        → IsWaitingAt (controller_next (fixed_of s) (moment s k).world) e q d.split.placement
+        → IsWaitingAt (controller_next (fixed_of s) (moment s k).world) e q d.split.placement d.works
     start_now d =
         let p : Placement = d.split.placement in
-        let l : StartLeft (moment s k).world e q d.split.placement (begun s k).control.frame.index =
+        let l : StartLeft (moment s k).world e q d.split.placement (begun s k).control.frame.index d.works =
         start_left text s spelled k e q past few d off in
         let v : Qh = l.queue in
         let u : ℕ = microframe_of w.control.frame.index in
@@ -172,7 +181,7 @@ module _ (text : List ℕ) (s : Script) (spelled : Spells text s) where
         masks_hold w (texts_stay_mixed text s spelled k) (heads_at text s spelled k) e q p l.frames v l.read in
         let o : StartsFirst d.split.placement = order_begun k e q d.split.placement d.split.there d.split.classic in
         let bit : has p.smask u ≡ true = ap (λ (j : ℕ). has p.smask (microframe_of j)) l.index ∙ d.bit in
-        waits_new p v l.waiting
+        waits_new p v d.works l.far l.waiting
         (started_on_time w.control.frame.index new.control.frame.index v next (l.tag ∙ ap tag_of (sym l.index))
         (ap (λ (mask : ℕ). has mask u) m.smask ∙ bit)
         (ap (λ (mask : ℕ). lacks mask v.c_prog (suc u)) m.cmask
@@ -185,7 +194,7 @@ module _ (text : List ℕ) (s : Script) (spelled : Spells text s) where
         })
 
     -- it waits
-    module _ (x : IsWaitingAt (begun s k) e q r) where
+    module _ (x : IsWaitingAt (begun s k) e q r first) where
       abbrev p : Placement
       p = r
 
@@ -202,11 +211,11 @@ module _ (text : List ℕ) (s : Script) (spelled : Spells text s) where
       active : is_active p (frame_in (moment s k).world.control.frame.index) ≡ true
       active = ap (λ (j : ℕ). is_active p (frame_in j)) since.index ∙ x.active
 
-      waits_then : IsWaitingAt (controller_next (fixed_of s) (moment s k).world) e q p → Story s A i (suc k) e q p
-      waits_then y = is_waiting (subst (λ (b : World). IsWaitingAt b e q p) (sym n.begun) y)
+      waits_then : IsWaitingAt (controller_next (fixed_of s) (moment s k).world) e q p first → Story s A i (suc k) e q p first
+      waits_then y = is_waiting (subst (λ (b : World). IsWaitingAt b e q p first) (sym n.begun) y)
 
       -- with nothing to do
-      rests_on : has p.cmask (microframe_of (moment s k).world.control.frame.index) ≡ false → Story s A i (suc k) e q p
+      rests_on : has p.cmask (microframe_of (moment s k).world.control.frame.index) ≡ false → Story s A i (suc k) e q p first
       rests_on bit =
           let v : Qh = x.queue in
           let u : ℕ = microframe_of w.control.frame.index in
@@ -220,7 +229,7 @@ module _ (text : List ℕ) (s : Script) (spelled : Spells text s) where
             waiting = x.waiting;
             rests = complete_rests (begun s k).control.frame.index x.queue x.waiting x.unmissed bit_then;
           } in
-          waits_then (waits_new p v x.waiting
+          waits_then (waits_new p v first x.far x.waiting
           (next_on_time w.control.frame.index new.control.frame.index v v next (record { smask = refl; cmask = refl; tag = refl }) time_now
           (rest_lacks v.cmask v.c_prog u time_now.all bit_now)) active
           (rest_at text s spelled e q p v k from off))
@@ -228,8 +237,8 @@ module _ (text : List ℕ) (s : Script) (spelled : Spells text s) where
       -- with its complete-split
       left_on : (z : Qh) → HasLeft (moment s k).world (32 * q) z (visited s k)
           → z.c_prog ≡ with_bit x.queue.c_prog (microframe_of (begun s k).control.frame.index)
-          → z.frame_tag ≡ tag_of (begun s k).control.frame.index → Story s A i (suc k) e q p
-      left_on z l progress tag =
+          → z.frame_tag ≡ tag_of (begun s k).control.frame.index → IsAsFar x.queue z → Story s A i (suc k) e q p first
+      left_on z l progress tag far =
           let v : Qh = x.queue in
           let y : Qh = l.queue in
           let u : ℕ = microframe_of w.control.frame.index in
@@ -237,7 +246,8 @@ module _ (text : List ℕ) (s : Script) (spelled : Spells text s) where
           masks_hold w (texts_stay_mixed text s spelled k) (heads_at text s spelled k) e q p since.frames y l.read in
           let done : y.c_prog ≡ with_bit v.c_prog u =
           l.goes.progress ∙ progress ∙ ap (λ (j : ℕ). with_bit v.c_prog (microframe_of j)) (sym since.index) in
-          waits_then (waits_new p y (l.goes.waiting ∙ l.waiting)
+          waits_then (waits_new p y first
+          (as_far_as first x.queue y x.far (as_far_as x.queue z y far l.goes.far)) (l.goes.waiting ∙ l.waiting)
           (next_on_time w.control.frame.index new.control.frame.index v y next
           (record {
             smask = has_masks.smask ∙ sym m.smask;
@@ -251,7 +261,7 @@ module _ (text : List ℕ) (s : Script) (spelled : Spells text s) where
             hand = is_apart (out_apart w (32 * q) l.out);
           }))
 
-      asks_on : GoesOn (A k) x.queue (32 * q) (begun s k).control.frame.index (queues_made s k) → Story s A i (suc k) e q p
+      asks_on : GoesOn (A k) x.queue (32 * q) (begun s k).control.frame.index (queues_made s k) → Story s A i (suc k) e q p first
       asks_on (is_answered a) = has_answer k less (omega arith) a
       asks_on (was_last last a) =
           let f : ℕ = (begun s k).control.frame.index in
@@ -260,7 +270,7 @@ module _ (text : List ℕ) (s : Script) (spelled : Spells text s) where
           ∙ ap (λ (j : ℕ). suc (microframe_of j)) since.index in
           is_over (microframe_of f) (ap (λ (mask : ℕ). is_last mask (microframe_of f)) (sym m.cmask) ∙ last)
           (omega (arith, same))
-      asks_on (is_left z left a progress tag) = left_on z (since.left z left) progress tag
+      asks_on (is_left z left a progress tag far) = left_on z (since.left z left) progress tag far
 
       due_now : has p.cmask (microframe_of (begun s k).control.frame.index) ≡ true → IsCompleteDue (fixed_of s) (begun s k) e q
       due_now bit = record {
@@ -278,16 +288,16 @@ module _ (text : List ℕ) (s : Script) (spelled : Spells text s) where
         bit = bit;
       }
 
-      asks : has p.cmask (microframe_of (moment s k).world.control.frame.index) ≡ true → Story s A i (suc k) e q p
+      asks : has p.cmask (microframe_of (moment s k).world.control.frame.index) ≡ true → Story s A i (suc k) e q p first
       unfolding due_now
       asks bit =
           let bit_then : has p.cmask (microframe_of (begun s k).control.frame.index) ≡ true =
           ap (λ (j : ℕ). has p.cmask (microframe_of j)) (sym since.index) ∙ bit in
-          asks_on (resolves past (due_now bit_then) bit_then)
+          asks_on (resolves past (due_now bit_then) x.far bit_then)
 
-      waits_on : Story s A i (suc k) e q p
+      waits_on : Story s A i (suc k) e q p first
       waits_on =
-          ⊎_elim {C = Story s A i (suc k) e q p} asks rests_on
+          ⊎_elim {C = Story s A i (suc k) e q p first} asks rests_on
           (cases_Bool (has p.cmask (microframe_of (moment s k).world.control.frame.index)))
 
     -- ---- each
@@ -301,49 +311,50 @@ module _ (text : List ℕ) (s : Script) (spelled : Spells text s) where
 
   module _ (A : ℕ → Type 0) (i k e q : ℕ) (d : IsStartDue (fixed_of s) (begun s i) e q) (n : BeginsNow s k) (less : i ≤ k)
       (one : IsOneFrame s i (suc k)) (off : IsUncancelled (moment s k).world.driver e)
-      (resolves : IsPastFrames (moment s k).world → (c : IsCompleteDue (fixed_of s) (begun s k) e q)
+      (resolves : IsPastFrames (moment s k).world → (c : IsCompleteDue (fixed_of s) (begun s k) e q) → IsAsFar d.works c.split.queue
       → has d.split.placement.cmask (microframe_of (begun s k).control.frame.index) ≡ true
       → GoesOn (A k) c.split.queue (32 * q) (begun s k).control.frame.index (queues_made s k)) where
-    begins_on : HasStayed s k → Story s A i k e q d.split.placement → Story s A i (suc k) e q d.split.placement
+    begins_on : HasStayed s k → Story s A i k e q d.split.placement d.works → Story s A i (suc k) e q d.split.placement d.works
     begins_on stayed (in_start same) =
-        is_waiting (subst (λ (b : World). IsWaitingAt b e q d.split.placement) (sym n.begun)
+        is_waiting (subst (λ (b : World). IsWaitingAt b e q d.split.placement d.works) (sym n.begun)
         (subst (λ (b : World). (c : IsStartDue (fixed_of s) b e q)
-        → IsWaitingAt (controller_next (fixed_of s) (moment s k).world) e q c.split.placement) same
-        (start_now A i k e q d.split.placement n less one off resolves) d))
-    begins_on stayed (is_waiting x) = waits_on A i k e q d.split.placement n less one off resolves x
+        → IsWaitingAt (controller_next (fixed_of s) (moment s k).world) e q c.split.placement c.works) same
+        (start_now A i k e q d.split.placement d.works n less one off resolves) d))
+    begins_on stayed (is_waiting x) = waits_on A i k e q d.split.placement d.works n less one off resolves x
     begins_on stayed (has_answer at from before a) = has_answer at from (omega (arith, before)) a
     begins_on stayed (is_over u last below) =
-        is_over u last (over_on A i k e q d.split.placement n less one off resolves u below stayed)
+        is_over u last (over_on A i k e q d.split.placement d.works n less one off resolves u below stayed)
 
   -- ---- the microframe goes on
 
   module _ (A : ℕ → Type 0) where
-    same_on : (i k e q : ℕ) (p : Placement) → begun s (suc k) ≡ begun s k → Story s A i k e q p → Story s A i (suc k) e q p
-    same_on i k e q p same (in_start was) = in_start (same ∙ was)
-    same_on i k e q p same (is_waiting x) = is_waiting (subst (λ (b : World). IsWaitingAt b e q p) (sym same) x)
-    same_on i k e q p same (has_answer at from before a) = has_answer at from (omega (arith, before)) a
-    same_on i k e q p same (is_over u last below) =
+    same_on : (i k e q : ℕ) (p : Placement) (v : Qh) → begun s (suc k) ≡ begun s k → Story s A i k e q p v
+        → Story s A i (suc k) e q p v
+    same_on i k e q p v same (in_start was) = in_start (same ∙ was)
+    same_on i k e q p v same (is_waiting x) = is_waiting (subst (λ (b : World). IsWaitingAt b e q p v) (sym same) x)
+    same_on i k e q p v same (has_answer at from before a) = has_answer at from (omega (arith, before)) a
+    same_on i k e q p v same (is_over u last below) =
         is_over u last (subst (λ (b : World). u < microframe_of b.control.frame.index) (sym same) below)
 
     -- ---- along the frame
 
-    pub record IsTold (i k e q : ℕ) (p : Placement) : Type 0 where
+    pub record IsTold (i k e q : ℕ) (p : Placement) (v : Qh) : Type 0 where
       pub stayed : HasStayed s k
-      pub story : Story s A i k e q p
+      pub story : Story s A i k e q p v
 
     module _ (i e q end : ℕ) (d : IsStartDue (fixed_of s) (begun s i) e q)
         (resolves : (k : ℕ) → i ≤ k → k < end → IsOneFrame s i (suc k) → IsUncancelled (moment s k).world.driver e
-        → IsPastFrames (moment s k).world → (c : IsCompleteDue (fixed_of s) (begun s k) e q)
+        → IsPastFrames (moment s k).world → (c : IsCompleteDue (fixed_of s) (begun s k) e q) → IsAsFar d.works c.split.queue
         → has d.split.placement.cmask (microframe_of (begun s k).control.frame.index) ≡ true
         → GoesOn (A k) c.split.queue (32 * q) (begun s k).control.frame.index (queues_made s k)) where
       one_more : (k : ℕ) → i ≤ k → k < end → IsOneFrame s i (suc k) → IsUncancelled (moment s k).world.driver e
-          → IsTold i k e q d.split.placement → IsTold i (suc k) e q d.split.placement
+          → IsTold i k e q d.split.placement d.works → IsTold i (suc k) e q d.split.placement d.works
       one_more k less under one off t = record {
         stayed = stays_then s k t.stayed;
-        story = ⊎_elim {C = Story s A i (suc k) e q d.split.placement}
-            (λ (same : begun s (suc k) ≡ begun s k). same_on i k e q d.split.placement same t.story)
+        story = ⊎_elim {C = Story s A i (suc k) e q d.split.placement d.works}
+            (λ (same : begun s (suc k) ≡ begun s k). same_on i k e q d.split.placement d.works same t.story)
             (λ (n : BeginsNow s k).
-            begins_on A i k e q d n less one off (λ past c bit. resolves k less under one off past c bit) t.stayed t.story)
+            begins_on A i k e q d n less one off (λ past c far bit. resolves k less under one off past c far bit) t.stayed t.story)
             (begun_then s k);
       }
 
@@ -354,19 +365,19 @@ module _ (text : List ℕ) (s : Script) (spelled : Spells text s) where
         few = λ j from up. one.few j from (omega (arith, up));
       }
 
-      starts : (k : ℕ) → i ≡ k → IsUncancelled (moment s k).world.driver e → IsTold i k e q d.split.placement
+      starts : (k : ℕ) → i ≡ k → IsUncancelled (moment s k).world.driver e → IsTold i k e q d.split.placement d.works
       starts k here off =
-          subst (λ (j : ℕ). IsUncancelled (moment s j).world.driver e → IsTold i j e q d.split.placement) here
+          subst (λ (j : ℕ). IsUncancelled (moment s j).world.driver e → IsTold i j e q d.split.placement d.works) here
           (λ on. record {
             stayed = (since_at text s spelled i e q d.split.placement d.split.there d.split.active on).index;
             story = in_start refl;
           }) off
 
       pub told : (k : ℕ) → i ≤ k → k ≤ end → IsOneFrame s i k → IsUncancelled (moment s k).world.driver e
-          → IsTold i k e q d.split.placement
+          → IsTold i k e q d.split.placement d.works
       told zero less under one off = starts zero (omega (arith, less)) off
       told (suc k) less under one off =
-          ⊎_elim {C = IsTold i (suc k) e q d.split.placement}
+          ⊎_elim {C = IsTold i (suc k) e q d.split.placement d.works}
           (λ (here : i ≡ suc k). starts (suc k) here off)
           (λ (apart : i ≢ suc k).
           let before : IsUncancelled (moment s k).world.driver e =
@@ -397,10 +408,10 @@ module _ (text : List ℕ) (s : Script) (spelled : Spells text s) where
     -- an answer was heard, or it waits
     pub data Follows (A : ℕ → Type 0) (k : ℕ) : Type 0 where
       had_answer : (at : ℕ) → i ≤ at → at < k → A at → Follows A k
-      is_due : IsWaitingAt (begun s k) e q d.split.placement → Follows A k
+      is_due : IsWaitingAt (begun s k) e q d.split.placement d.works → Follows A k
 
     pub follows : (A : ℕ → Type 0) (k : ℕ) → has d.split.placement.cmask (microframe_of (begun s k).control.frame.index) ≡ true
-        → Story s A i k e q d.split.placement → Follows A k
+        → Story s A i k e q d.split.placement d.works → Follows A k
     follows A k bit (in_start same) = absurd (no_bit_yet k same bit)
     follows A k bit (is_waiting x) = is_due x
     follows A k bit (has_answer at from before a) = had_answer at from before a
@@ -409,7 +420,7 @@ module _ (text : List ℕ) (s : Script) (spelled : Spells text s) where
 
     abbrev pub its_complete : (k : ℕ) → i ≤ k → IsOneFrame s i k
         → has d.split.placement.cmask (microframe_of (begun s k).control.frame.index) ≡ true
-        → IsWaitingAt (begun s k) e q d.split.placement → IsCompleteDue (fixed_of s) (begun s k) e q
+        → IsWaitingAt (begun s k) e q d.split.placement d.works → IsCompleteDue (fixed_of s) (begun s k) e q
     its_complete k less one bit x = record {
       split = record {
         placement = d.split.placement;
@@ -434,8 +445,8 @@ pub completes_follow : (text : List ℕ) (s : Script) → Spells text s → Spli
 completes_follow text s spelled i k e q less d one off bit =
     by (follows text s spelled i e q d (Heard s (32 * q)) k bit
     (told text s spelled (Heard s (32 * q)) i e q k d
-    (λ j from under one off past c bit. completes_go_on text s spelled j e q past (one.few j from (omega arith)) c off) k less (omega arith) one
-    off).story)
+    (λ j from under one off past c far bit. completes_go_on text s spelled j e q past (one.few j from (omega arith)) c off) k less
+    (omega arith) one off).story)
   where
     by : Follows text s spelled i e q d (Heard s (32 * q)) k → WasAnswered s i k (32 * q) ⊎ IsCompleteDue (fixed_of s) (begun s k) e q
     by (had_answer at from before a) = inl (record { at = at; from = from; before = before; made = a })
@@ -445,7 +456,7 @@ answered_by : (s : Script) (i k n : ℕ) (v : Qh) (f : ℕ) → i ≤ k → Goes
     → WasAnswered s i (suc k) n ⊎ HasMade (IsNotYet n) (queues_made s k)
 answered_by s i k n v f less (is_answered a) = inl (record { at = k; from = less; before = omega arith; made = a })
 answered_by s i k n v f less (was_last last a) = inr a
-answered_by s i k n v f less (is_left z left a progress tag) = inr a
+answered_by s i k n v f less (is_left z left a progress tag far) = inr a
 
 pub completes_are_answered : (text : List ℕ) (s : Script) → Spells text s → CompletesAreAnswered s
 completes_are_answered text s spelled i k e q less d one off bit past =

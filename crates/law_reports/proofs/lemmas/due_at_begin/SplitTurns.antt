@@ -10,6 +10,7 @@ use Rattle.usb_base.specs.declared.packets.Reply.TheVariants.{Hand}
 use Rattle.link_words.specs.declared.kinds.QtdLink.{QtdLink}
 use Rattle.link_words.specs.Links.{qtd_link_of}
 use Rattle.qh_qtd.specs.declared.queue_head.Qh.{Qh}
+use Rattle.qh_qtd.specs.declared.token.Token.{Token}
 use Rattle.hc_copy.specs.declared.held.Transaction.{Transaction}
 use Rattle.hc_copy.specs.Overlay.{settled_queue}
 use Rattle.hc_copy.specs.Planning.{queue_pipe, host_in, split_at, transaction_at}
@@ -23,6 +24,7 @@ use Rattle.hc_interrupt.specs.Turns.{microframe_of, tag_of, waits, is_missed, co
 use Rattle.claims_world.specs.Due.{IsActiveToken}
 use Rattle.claims_world.specs.QueuesMade.{QueueMade}
 use Rattle.claims_world.specs.SplitsAtBegin.{IsStarted, IsCompleted}
+use Rattle.law_reports.specs.due_at_begin.SplitsTaken.{IsAsFar}
 
 -- ---- queue heads that are alike in what tells the turn and the transaction
 
@@ -36,6 +38,13 @@ pub record IsAsDue (v q : Qh) : Type 0 where
 
 pub itself_as_due : (v : Qh) → IsAsDue v v
 itself_as_due v = record { token = refl; eps = refl; smask = refl; cmask = refl; progress = refl; tag = refl }
+
+-- as far as one, which is as far as another
+pub as_far_as : (u v q : Qh) → IsAsFar u v → IsAsFar v q → IsAsFar u q
+as_far_as u v q x y = record { toggle = y.toggle ∙ x.toggle; left = y.left ∙ x.left }
+
+pub far_as_due : (v q : Qh) → IsAsDue v q → IsAsFar v q
+far_as_due v q k = record { toggle = ap (λ (t : Token). t.toggle) k.token; left = ap (λ (t : Token). t.total) k.token }
 
 -- ---- the turn
 
@@ -184,6 +193,13 @@ module _ (f n : ℕ) (q : Qh) (out : List ℕ) (last : Bool) (reply : Reply) (lo
         frame = refl;
         none = refl;
       })
+
+  -- .. and it is as far as before
+  pub start_far : q.token.split_state ≡ false → IsAsFar q (left_as f q out last reply)
+  unfolding with_split settled_queue
+  start_far unsplit =
+      let plan : planned q ≡ split_by false false = ap (λ (b : Bool). split_by b q.token.split_state) low ∙ ap (split_by false) unsplit in
+      subst (λ (t : Transaction). IsAsFar q (by_plan t).queue) (sym plan) (record { toggle = refl; left = refl })
 
   -- a complete-split: where the translator has nothing yet it waits further
   tag_is : (a b : ℕ) (later : Bool) → (not (a == b) || later) ≡ false → a ≡ b

@@ -1,5 +1,5 @@
 -- From the Begin of a start-split that was due to the last complete-split of the frame: the host heard what the device answered, and where
--- that moves bytes they moved (EHCI 1.0, 4.12.2; USB 2.0, 11.18 and 11.20).
+-- that moves bytes of what its queue head came to then they moved (EHCI 1.0, 4.12.2; USB 2.0, 11.18 and 11.20).
 use Rattle.std.proofs.Common.{◌≡◌, ◌≢◌, ℕ, zero, suc, ◌*◌, ◌≤◌, ◌<◌, List, ap, refl, sym, subst, ◌∙◌, arith}
 use Rattle.std.proofs.Common.{⊎_elim, inl, inr, ◌⊎◌}
 use Rattle.std.proofs.lemmas.Bool.{cases_eq}
@@ -14,13 +14,14 @@ use Rattle.bus_world.specs.World.{World}
 use Rattle.claims_world.specs.BelowStreams.{IsSparedAt}
 use Rattle.claims_world.specs.DueAtBegin.{begun, IsUncancelled}
 use Rattle.claims_world.specs.Results.{IsLastIn}
-use Rattle.claims_world.specs.SplitFrames.{IsOneFrame, HasCome, IsHeardThroughout, WasDone, StartsAreDone}
+use Rattle.claims_world.specs.SplitFrames.{IsOneFrame, HasCome, IsHeardThroughout, StartsAreDone}
 use Rattle.claims_world.specs.SplitsAtBegin.{IsStartDue}
 use Rattle.claims_world.specs.Visits.{IsPastFrames}
 use Rattle.law_world.proofs.lemmas.memory.Together.{texts_stay_mixed}
 use Rattle.law_microframes.specs.due.repeats.Hearing.{IsHeardOn}
 use Rattle.law_microframes.proofs.lemmas.due.lemmas.repeats.AskedHeads.{no_control}
 use Rattle.law_reports.specs.due_at_begin.Splits.{TextsKeepSplitFrames}
+use Rattle.law_reports.specs.due_at_begin.SplitsTaken.{WasDoneOf, TextsTakeSplits}
 use Rattle.law_reports.proofs.lemmas.due_at_begin.BegunMoments.{BeginsNow, begun_then}
 use Rattle.law_reports.proofs.lemmas.due_at_begin.RestingMicroframes.{before_then}
 use Rattle.law_reports.proofs.lemmas.due_at_begin.RestingMoments.{begin_part}
@@ -107,7 +108,7 @@ module _ (text : List ℕ) (s : Script) (spelled : Spells text s) where
 
     done_from : IsUncancelled (moment s k).world.driver e
         → IsLastIn d.split.placement.cmask (microframe_of (begun s k).control.frame.index) → IsPastFrames (moment s k).world
-        → WasDone s j (suc k) (32 * q) d.split.there.endpoint.desc
+        → WasDoneOf d.works s j (suc k) (32 * q) d.split.there.endpoint.desc
     done_from off last over =
         splits_are_done text s spelled j k e q less past d (come (uncancelled k less off)) one through off last over
 
@@ -134,7 +135,7 @@ module _ (text : List ℕ) (s : Script) (spelled : Spells text s) where
     DoneFrom b = (d : IsStartDue (fixed_of s) b e q) → ((m : ℕ) → begun s m ≡ b → IsSparedAt s d.split.there.endpoint.desc m)
         → IsHeardThroughout s i k d.split.there.endpoint.desc
         → IsLastIn d.split.placement.cmask (microframe_of (begun s k).control.frame.index)
-        → WasDone s i (suc k) (32 * q) d.split.there.endpoint.desc
+        → WasDoneOf d.works s i (suc k) (32 * q) d.split.there.endpoint.desc
 
     from_then : DoneFrom (begun s x.at)
     from_then d spared through last =
@@ -146,17 +147,23 @@ module _ (text : List ℕ) (s : Script) (spelled : Spells text s) where
           heard = λ m up under. through.heard m (omega (arith, from, up)) under;
         }) off last over in
         let start = y.from in
-        record { at = y.at; from = omega (arith, from, start); before = y.before; done = y.done }
+        record { at = y.at; from = omega (arith, from, start); before = y.before; of = y.of }
 
     from_begin : DoneFrom (begun s i)
     from_begin = subst DoneFrom x.same from_then
 
-pub starts_are_done : (text : List ℕ) (s : Script) → Spells text s → StartsAreDone s
-starts_are_done text s spelled i k e q less d one heard off last over =
-    ⊎_elim {C = WasDone s i (suc k) (32 * q) d.split.there.endpoint.desc}
+pub texts_take_splits : TextsTakeSplits
+texts_take_splits text s spelled i k e q less d one heard off last over =
+    ⊎_elim {C = WasDoneOf d.works s i (suc k) (32 * q) d.split.there.endpoint.desc}
     (λ (same : begun s k ≡ begun s i). absurd (no_bit_yet text s spelled i e q d k same last.here))
     (λ (x : EndsWithin s i k). from_begin text s spelled i k e q one off over x d heard.begins heard.through last)
     (within s i k less)
+
+starts_are_done : (text : List ℕ) (s : Script) → Spells text s → StartsAreDone s
+starts_are_done text s spelled i k e q less d one heard off last over =
+    let x : WasDoneOf d.works s i (suc k) (32 * q) d.split.there.endpoint.desc =
+    texts_take_splits text s spelled i k e q less d one heard off last over in
+    record { at = x.at; from = x.from; before = x.before; done = x.of.done }
 
 pub texts_keep_split_frames : TextsKeepSplitFrames
 texts_keep_split_frames = λ text s spelled. record {

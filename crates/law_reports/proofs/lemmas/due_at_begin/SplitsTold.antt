@@ -3,14 +3,17 @@
 use Rattle.std.proofs.Common.{◌≡◌, ◌≢◌, ℕ, zero, suc, ◌*◌, ◌≤◌, ◌<◌, Bool, true, false, List, [], ◌∷◌, ap, refl}
 use Rattle.std.proofs.Common.{sym, subst, ◌∙◌}
 use Rattle.std.proofs.Common.{arith, ⊎_elim, inl, inr, ◌⊎◌, if◌then◌else◌}
-use Rattle.std.specs.Prelude.{nat_le}
+use Rattle.std.specs.Prelude.{◌-◌, nat_le, not, min, length}
 use Rattle.std.proofs.lemmas.Bool.{cases_eq, true≢false}
 use Rattle.usb_base.specs.declared.endpoints.EpDesc.{EpDesc}
 use Rattle.usb_base.specs.declared.packets.EpKind.{EpKind}
 use Rattle.usb_base.specs.declared.packets.EpKind.TheVariants.{Interrupt}
-use Rattle.usb_base.specs.declared.packets.Pid.TheVariants.{Nyet}
+use Rattle.usb_base.specs.declared.packets.Pid.TheVariants.{Ack, Nyet}
 use Rattle.usb_base.specs.declared.packets.Reply.{Reply}
-use Rattle.usb_base.specs.declared.packets.Reply.TheVariants.{Hand}
+use Rattle.usb_base.specs.declared.packets.Reply.TheVariants.{Bytes, Hand}
+use Rattle.usb_base.specs.declared.packets.Way.{Way}
+use Rattle.usb_base.specs.declared.packets.Way.TheVariants as ways
+use Rattle.toggle_error.specs.Columns.{expected_pid}
 use Rattle.script_types.specs.declared.scripts.Script.{Script}
 use Rattle.script_text.specs.Faults.{Spells}
 use Rattle.qh_qtd.specs.declared.queue_head.Qh.{Qh}
@@ -30,22 +33,25 @@ use Rattle.bus_world.specs.World.{World}
 use Rattle.claims_world.specs.DueAtBegin.{begun, IsUncancelled}
 use Rattle.claims_world.specs.QueuesMade.{QueueMade, queues_made, HasMade}
 use Rattle.claims_world.specs.Results.{IsNextHeard, HasAnswer as HasReply, IsAnswerDue, HasEntry, IsLastIn, IsLastDue, IsToldBy, MovesBy}
-use Rattle.claims_world.specs.Results.{IsTaken}
+use Rattle.claims_world.specs.Results.{by_data, by_ack, IsTaken}
+use Rattle.claims_world.specs.Prices.{left_bytes}
 use Rattle.claims_world.specs.SplitsAtBegin.{IsStartDue, IsCompleteDue}
 use Rattle.claims_world.specs.Visits.{IsPastFrames}
 use Rattle.claims_world.specs.WithinLoad.{repeats}
 use Rattle.law_world.specs.memory.Mixed.{IsMixedWorld}
 use Rattle.law_microframes.specs.time.DataQueues.{QueuesSendData}
 use Rattle.law_microframes.specs.visits.Belonging.{HeadsHaveFields}
-use Rattle.claims_world.specs.SplitFrames.{IsOneFrame, IsEntryOf, HasCome, IsHeardThroughout, DevicesAreHeard, IsDoneBy, WasDone}
+use Rattle.claims_world.specs.SplitFrames.{IsOneFrame, IsEntryOf, HasCome, IsHeardThroughout, DevicesAreHeard, IsDoneBy}
+use Rattle.law_reports.specs.due_at_begin.SplitsTaken.{IsAsFar, IsDoneOf, WasDoneOf}
 use Rattle.law_reports.proofs.lemmas.due_at_begin.EntryFrames.{IsStagedIn, IsStagedFrom, staged_next}
 use Rattle.law_reports.proofs.lemmas.due_at_begin.NotYet.{IsAskedOnce, asked_leaves, nyet_or_not, GoesOn, is_answered, more_on, not_yet}
 use Rattle.law_reports.proofs.lemmas.due_at_begin.HubSeats.{hubs_are_zero}
 use Rattle.law_reports.proofs.lemmas.due_at_begin.LastDue.{IsThere, last_is_begun}
 use Rattle.law_reports.proofs.lemmas.due_at_begin.RestingMicroframes.{before_then}
 use Rattle.law_reports.proofs.lemmas.due_at_begin.ResultDue.{answer_beside, heard, results_are_taken}
-use Rattle.law_reports.proofs.lemmas.due_at_begin.SplitDue.{complete_due}
+use Rattle.law_reports.proofs.lemmas.due_at_begin.SplitDue.{has_come_to, complete_due}
 use Rattle.law_reports.proofs.lemmas.due_at_begin.SplitFrames.{Follows, had_answer, is_due, follows, its_complete, told, order_begun}
+use Rattle.law_reports.proofs.lemmas.due_at_begin.SplitFrames.{packets_begun}
 use Rattle.law_reports.proofs.lemmas.due_at_begin.SplitMoments.{IsDueOf}
 use Rattle.law_reports.proofs.lemmas.due_at_begin.SplitRuns.{splits_are_made}
 use Rattle.law_reports.proofs.lemmas.due_at_begin.SplitOrder.{StartsFirst}
@@ -125,6 +131,29 @@ module _ (q : Qh) (n f : ℕ) (reply : Reply) where
   told_by e x (m ∷ ms) (inl a) =
       inl (record { reply = x.answer; made = x.made; answered = record { at = a.asked.completed.at; heard = a.heard ∙ x.told } })
   told_by e x (m ∷ ms) (inr was) = inr (told_by e x ms was)
+
+-- ---- of a queue head that is as far
+
+left_as_far : (v q : Qh) → IsAsFar v q → q.max ≡ v.max → left_bytes q ≡ left_bytes v
+left_as_far v q far packets = ap (λ (n : ℕ). min n q.token.total) packets ∙ ap (min v.max) far.left
+
+moves_as : (v q : Qh) → IsAsFar v q → q.max ≡ v.max → (way : Way) (r : Reply) (n : ℕ) → MovesBy v way r n → MovesBy q way r n
+moves_as v q far packets _ _ _ (by_data bytes short) =
+    subst (λ (t : Bool). MovesBy q ways.In (Bytes (expected_pid t) bytes) (length bytes)) far.toggle
+    (by_data bytes (subst (λ (n : ℕ). length bytes ≤ n) (sym (left_as_far v q far packets)) short))
+moves_as v q far packets _ _ _ by_ack =
+    subst (MovesBy q ways.Out (Hand Ack)) (left_as_far v q far packets) by_ack
+
+taken_of : (v q : Qh) (n bytes : ℕ) → IsAsFar v q → (ms : List QueueMade) → HasMade (IsTaken q n bytes) ms → HasMade (IsTaken v n bytes) ms
+taken_of v q n bytes far [] was = was
+taken_of v q n bytes far (m ∷ ms) (inl a) = inl (record {
+  at = a.at;
+  outcome = a.outcome;
+  left = a.left ∙ ap (λ (total : ℕ). total - bytes) far.left;
+  toggle = a.toggle ∙ ap not far.toggle;
+  starts = a.starts;
+})
+taken_of v q n bytes far (m ∷ ms) (inr was) = inr (taken_of v q n bytes far ms was)
 
 no_bit : (b : Bool) → (b ≡ true → ⊥) → b ≡ false
 no_bit true off = absurd (off refl)
@@ -256,7 +285,15 @@ module _ (text : List ℕ) (s : Script) (spelled : Spells text s) (i e q : ℕ) 
       made over = told_made text s spelled k e q over (one.few k from under) answer_is_due off
 
       abbrev Done : Type 0
-      Done = IsDoneBy (begun s k) (32 * q) d.split.there.endpoint.desc (queues_made s k)
+      Done = IsDoneOf d.works (begun s k) (32 * q) d.split.there.endpoint.desc (queues_made s k)
+
+      -- its packets are as large as those of what came as its start-split was due
+      packets : c.split.queue.max ≡ d.works.max
+      packets =
+          packets_begun text s spelled k e q c.split.placement c.split.there c.split.queue c.split.read
+          ∙ ap (λ (y : EpDesc). y.max) desc
+          ∙ sym ((has_come_to (begun s i).memory d.split.queue d.works d.next).longest
+          ∙ packets_begun text s spelled i e q d.split.placement d.split.there d.split.queue d.split.read)
 
       taken : IsPastFrames (moment s k).world → (bytes : ℕ)
           → MovesBy c.split.queue d.split.there.endpoint.desc.name.way (answer_of here.staged.entry) bytes
@@ -270,9 +307,9 @@ module _ (text : List ℕ) (s : Script) (spelled : Spells text s) (i e q : ℕ) 
             moves = subst (λ (y : EpDesc). MovesBy c.split.queue y.name.way (answer_of here.staged.entry) bytes) (sym desc) moves;
           }) off
 
-      done : IsPastFrames (moment s k).world → IsDevices here.staged.entry (answer_of here.staged.entry)
+      done_by : IsPastFrames (moment s k).world → IsDevices here.staged.entry (answer_of here.staged.entry)
           → IsDoneBy (begun s k) (32 * q) d.split.there.endpoint.desc (queues_made s k)
-      done over told = record {
+      done_by over told = record {
         entry = here.staged.entry;
         is = entry_is;
         told = told_by c.split.queue (32 * q) (begun s k).control.frame.index (answer_of here.staged.entry) here.staged.entry told
@@ -288,14 +325,27 @@ module _ (text : List ℕ) (s : Script) (spelled : Spells text s) (i e q : ℕ) 
           same_reply : (a r : Reply) → ◌≡◌ {A = Exchange} (Made r) (Made a) → r ≡ a
           same_reply a r is = cc
 
-      comes_to : IsPastFrames (moment s k).world → (A : Type 0) → (Done → A)
+      done : IsAsFar d.works c.split.queue → IsPastFrames (moment s k).world → IsDevices here.staged.entry (answer_of here.staged.entry)
+          → IsDoneOf d.works (begun s k) (32 * q) d.split.there.endpoint.desc (queues_made s k)
+      unfolding done_by
+      done far over told = record {
+        done = done_by over told;
+        far = far;
+        packets = packets;
+        taken = λ reply bytes exchange moves.
+            taken_of d.works c.split.queue (32 * q) bytes far (queues_made s k)
+            ((done_by over told).taken reply bytes exchange
+            (moves_as d.works c.split.queue far packets d.split.there.endpoint.desc.name.way (result_of reply) bytes moves));
+      }
+
+      comes_to : IsAsFar d.works c.split.queue → IsPastFrames (moment s k).world → (A : Type 0) → (Done → A)
           → GoesOn A c.split.queue (32 * q) (begun s k).control.frame.index (queues_made s k)
-      comes_to over A so =
+      comes_to far over A so =
           ⊎_elim {C = GoesOn A c.split.queue (32 * q) (begun s k).control.frame.index (queues_made s k)}
           (λ (nyet : answer_of here.staged.entry ≡ Hand Nyet).
           nyet_on c.split.queue (32 * q) (begun s k).control.frame.index (answer_of here.staged.entry) nyet A (queues_made s k) (made over))
           (λ (told : answer_of here.staged.entry ≢ Hand Nyet).
-          is_answered (so (done over (devices here.staged.entry here.staged.staged.kind told))))
+          is_answered (so (done far over (devices here.staged.entry here.staged.staged.kind told))))
           (nyet_or_not (answer_of here.staged.entry))
 
       -- in the last microframe of the C-mask
@@ -332,14 +382,14 @@ module _ (text : List ℕ) (s : Script) (spelled : Spells text s) (i e q : ℕ) 
     -- ---- along the frame
 
     abbrev Answered : ℕ → Type 0
-    Answered k = IsDoneBy (begun s k) (32 * q) d.split.there.endpoint.desc (queues_made s k)
+    Answered k = IsDoneOf d.works (begun s k) (32 * q) d.split.there.endpoint.desc (queues_made s k)
 
     resolves : (k : ℕ) → i ≤ k → k < end → IsOneFrame s i (suc k) → IsUncancelled (moment s k).world.driver e
-        → IsPastFrames (moment s k).world → (c : IsCompleteDue (fixed_of s) (begun s k) e q)
+        → IsPastFrames (moment s k).world → (c : IsCompleteDue (fixed_of s) (begun s k) e q) → IsAsFar d.works c.split.queue
         → has d.split.placement.cmask (microframe_of (begun s k).control.frame.index) ≡ true
         → GoesOn (Answered k) c.split.queue (32 * q) (begun s k).control.frame.index (queues_made s k)
-    resolves k from less so off over c bit =
-        comes_to k from (omega (arith, less)) off c bit over (Answered k) (λ told. told)
+    resolves k from less so off over c far bit =
+        comes_to k from (omega (arith, less)) off c bit far over (Answered k) (λ told. told)
 
 -- ---- by the last complete-split
 
@@ -347,29 +397,29 @@ pub splits_are_done : (text : List ℕ) (s : Script) → Spells text s → (i k 
     → (d : IsStartDue (fixed_of s) (begun s i) e q) → HasCome (moment s i).world.bus d.split.there.endpoint.desc → IsOneFrame s i k
     → IsHeardThroughout s i k d.split.there.endpoint.desc → IsUncancelled (moment s k).world.driver e
     → IsLastIn d.split.placement.cmask (microframe_of (begun s k).control.frame.index) → IsPastFrames (moment s k).world
-    → WasDone s i (suc k) (32 * q) d.split.there.endpoint.desc
+    → WasDoneOf d.works s i (suc k) (32 * q) d.split.there.endpoint.desc
 splits_are_done text s spelled i k e q less past d come one through off last over =
     by (follows text s spelled i e q d Kept k last.here
     (told text s spelled Kept i e q k d
-    (λ j from under so off_then past_then c bit. resolves text s spelled i e q past d come k one through j from under so off_then past_then c
-    bit) k less (omega arith) one off).story)
+    (λ j from under so off_then past_then c far bit. resolves text s spelled i e q past d come k one through j from under so off_then
+    past_then c far bit) k less (omega arith) one off).story)
   where
     Kept : ℕ → Type 0
     Kept = Answered text s spelled i e q past d come k one through
 
-    by : Follows text s spelled i e q d Kept k → WasDone s i (suc k) (32 * q) d.split.there.endpoint.desc
-    by (had_answer at from before a) = record { at = at; from = from; before = omega (arith, before); done = a }
+    by : Follows text s spelled i e q d Kept k → WasDoneOf d.works s i (suc k) (32 * q) d.split.there.endpoint.desc
+    by (had_answer at from before a) = record { at = at; from = from; before = omega (arith, before); of = a }
     by (is_due x) =
         let c : IsCompleteDue (fixed_of s) (begun s k) e q = its_complete text s spelled i e q d k less one last.here x in
         record {
           at = k;
           from = less;
           before = omega arith;
-          done = done text s spelled i e q past d come k one through k less (omega arith) off c last.here over
+          of = done text s spelled i e q past d come k one through k less (omega arith) off c last.here x.far over
               (last_devices text s spelled i e q past d come k one through k less (omega arith) off c last.here refl last);
         }
 
 pub devices_are_heard : (text : List ℕ) (s : Script) → Spells text s → DevicesAreHeard s
 devices_are_heard text s spelled i k e q less past d come one through off last over =
     let x = splits_are_done text s spelled i k e q less past d come one through off last over in
-    record { at = x.at; from = x.from; before = x.before; entry = x.done.entry; is = x.done.is; made = x.done.told }
+    record { at = x.at; from = x.from; before = x.before; entry = x.of.done.entry; is = x.of.done.is; made = x.of.done.told }

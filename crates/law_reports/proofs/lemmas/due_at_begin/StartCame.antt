@@ -81,7 +81,7 @@ module _ (text : List ℕ) (s : Script) (spelled : Spells text s) where
       HasStaged 0 (key_for d.due.split.there.endpoint.desc) (pipeline_for c.hubs d.hub d.due.split.there.endpoint.desc.port)
 
   abbrev Made : (b : World) (e q : ℕ) → IsStartHeard s b e q → QueueMade → Type 0
-  Made b e q d = IsStartedWaiting (32 * q) b.control.frame.index
+  Made b e q d = IsStartedWaiting d.due.works (32 * q) b.control.frame.index
 
   -- ---- its transaction
 
@@ -141,7 +141,7 @@ module _ (text : List ℕ) (s : Script) (spelled : Spells text s) where
         → Entered (begun s k) e q d (controller_next (fixed_of s) (moment s k).world).bus
     frame_entered row had =
         let o = since_at text s spelled k e q d.due.split.placement d.due.split.there d.due.split.active off in
-        let f = found_started (32 * q) (begun s k).control.frame.index (queues_made s k) made in
+        let f = found_started d.due.works (32 * q) (begun s k).control.frame.index (queues_made s k) made in
         let l = o.left f.queue f.left in
         let same : o.frames.endpoint.desc ≡ its_desc = o.same d.due.split.there.endpoint d.due.split.there.here in
         let g = known.followed in

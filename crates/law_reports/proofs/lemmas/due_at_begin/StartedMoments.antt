@@ -18,32 +18,36 @@ use Rattle.claims_world.specs.SplitsAtBegin.{IsStartDue}
 use Rattle.claims_world.specs.Visits.{IsPastFrames, frame_in}
 use Rattle.claims_world.specs.WithinLoad.{repeats}
 use Rattle.law_reports.specs.due_at_begin.SplitsFollow.{IsOutOfHand, StartsWait}
+use Rattle.law_reports.specs.due_at_begin.SplitsTaken.{IsAsFar}
 use Rattle.law_reports.proofs.lemmas.due_at_begin.SplitDue.{Anything, IsStartedWaiting, start_waits_due}
 use Rattle.law_reports.proofs.lemmas.due_at_begin.SplitRuns.{splits_are_made}
+use Rattle.law_reports.proofs.lemmas.due_at_begin.SplitTurns.{as_far_as}
 use Rattle.law_reports.proofs.lemmas.due_at_begin.WrittenMoments.{LeavesWaiting, since_at}
 
 -- ---- the start-split that was made
 
-pub record FoundStarted (n f : ℕ) (ms : List QueueMade) : Type 0 where
+pub record FoundStarted (v : Qh) (n f : ℕ) (ms : List QueueMade) : Type 0 where
   pub queue : Qh
   pub left : HasMade (LeavesWaiting n queue) ms
   pub none : queue.c_prog ≡ 0
   pub tag : queue.frame_tag ≡ tag_of f
+  pub far : IsAsFar v queue
 
-pub found_started : (n f : ℕ) (ms : List QueueMade) → HasMade (IsStartedWaiting n f) ms → FoundStarted n f ms
-found_started n f [] was = absurd was
-found_started n f (m ∷ ms) (inl x) = record {
+pub found_started : (v : Qh) (n f : ℕ) (ms : List QueueMade) → HasMade (IsStartedWaiting v n f) ms → FoundStarted v n f ms
+found_started v n f [] was = absurd was
+found_started v n f (m ∷ ms) (inl x) = record {
   queue = m.queue;
   left = inl (record { at = x.started.at; queue = refl; waiting = x.started.waiting; wait = x.wait });
   none = x.started.none;
   tag = x.started.frame;
+  far = x.far;
 }
-found_started n f (m ∷ ms) (inr was) =
-    let g = found_started n f ms was in record { queue = g.queue; left = inr g.left; none = g.none; tag = g.tag }
+found_started v n f (m ∷ ms) (inr was) =
+    let g = found_started v n f ms was in record { queue = g.queue; left = inr g.left; none = g.none; tag = g.tag; far = g.far }
 
 -- ---- what it left
 
-pub record StartLeft (w : World) (e q : ℕ) (p : Placement) (f : ℕ) : Type 0 where
+pub record StartLeft (w : World) (e q : ℕ) (p : Placement) (f : ℕ) (v : Qh) : Type 0 where
   pub frames : IsInItsFrames w.driver e q p
   pub index : w.control.frame.index ≡ f
   pub queue : Qh
@@ -52,24 +56,25 @@ pub record StartLeft (w : World) (e q : ℕ) (p : Placement) (f : ℕ) : Type 0 
   pub none : queue.c_prog ≡ 0
   pub tag : queue.frame_tag ≡ tag_of f
   pub out : IsOutOfHand w (32 * q)
+  pub far : IsAsFar v queue
 
 module _ (text : List ℕ) (s : Script) (spelled : Spells text s) where
   starts_are_waiting : (k e q : ℕ) → IsPastFrames (moment s k).world → repeats s k ≤ 4000000
       → (d : IsStartDue (fixed_of s) (begun s k) e q) → IsUncancelled (moment s k).world.driver e
-      → HasMade (IsStartedWaiting (32 * q) (begun s k).control.frame.index) (queues_made s k)
+      → HasMade (IsStartedWaiting d.works (32 * q) (begun s k).control.frame.index) (queues_made s k)
   starts_are_waiting k e q past few d off =
       splits_are_made text s spelled (IsStartDue (fixed_of s)) (λ b x y due. due.split.there.endpoint.desc) (λ b x y due. Anything)
-      (λ b x y due. IsStartedWaiting (32 * y) b.control.frame.index)
+      (λ b x y due. IsStartedWaiting due.works (32 * y) b.control.frame.index)
       (λ b mixed heads sends x y due. start_waits_due (fixed_of s) b mixed heads x y due)
       (λ sides at lines hs w piped named b x y due z here kind same c goes had. tt) (λ x y due. cc due.split.there.here) k e q past few d
       off
 
   pub start_left : (k e q : ℕ) → IsPastFrames (moment s k).world → repeats s k ≤ 4000000 → (d : IsStartDue (fixed_of s) (begun s k) e q)
       → IsUncancelled (moment s k).world.driver e
-      → StartLeft (moment s k).world e q d.split.placement (begun s k).control.frame.index
+      → StartLeft (moment s k).world e q d.split.placement (begun s k).control.frame.index d.works
   start_left k e q past few d off =
       let o = since_at text s spelled k e q d.split.placement d.split.there d.split.active off in
-      let g = found_started (32 * q) (begun s k).control.frame.index (queues_made s k) (starts_are_waiting k e q past few d off) in
+      let g = found_started d.works (32 * q) (begun s k).control.frame.index (queues_made s k) (starts_are_waiting k e q past few d off) in
       let l = o.left g.queue g.left in
       record {
         frames = o.frames;
@@ -80,6 +85,7 @@ module _ (text : List ℕ) (s : Script) (spelled : Spells text s) where
         none = l.goes.progress ∙ g.none;
         tag = l.goes.tag ∙ g.tag;
         out = l.out;
+        far = as_far_as d.works g.queue l.queue g.far l.goes.far;
       }
 
   pub starts_wait : StartsWait s

@@ -42,6 +42,7 @@ use Rattle.law_microframes.specs.time.DataQueues.{QueuesSendData}
 use Rattle.law_microframes.specs.visits.Belonging.{HeadsHaveFields}
 use Rattle.law_microframes.proofs.lemmas.due.Turning.{no_fault}
 use Rattle.law_microframes.proofs.lemmas.due.Visiting.{writes as writes_step}
+use Rattle.law_reports.specs.due_at_begin.SplitsTaken.{IsAsFar}
 use Rattle.law_reports.specs.lines.Lined.{Lines}
 use Rattle.law_reports.specs.pipes.Declared.{Sides}
 use Rattle.law_reports.specs.pipes.Piped.{Heads, IsPiped}
@@ -54,10 +55,18 @@ pub record GoesOnAs (x y : Qh) : Type 0 where
   pub cmask : y.cmask ≡ x.cmask
   pub progress : y.c_prog ≡ x.c_prog
   pub tag : y.frame_tag ≡ x.frame_tag
+  pub far : IsAsFar x y
 
 written_on : (q x : Qh) (n : ℕ) → GoesOnAs x (relinked q (moved x n))
 unfolding moved
-written_on q x n = record { waiting = refl; smask = refl; cmask = refl; progress = refl; tag = refl }
+written_on q x n = record {
+  waiting = refl;
+  smask = refl;
+  cmask = refl;
+  progress = refl;
+  tag = refl;
+  far = record { toggle = refl; left = refl };
+}
 
 -- it stands in memory so
 pub record StandsOn (w : World) (n : ℕ) (x : Qh) : Type 0 where

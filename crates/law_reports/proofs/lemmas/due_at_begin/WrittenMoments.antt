@@ -12,6 +12,7 @@ use Rattle.script_types.specs.declared.scripts.Event.TheVariants as events
 use Rattle.script_types.specs.declared.scripts.Script.{Script}
 use Rattle.script_text.specs.Faults.{Spells}
 use Rattle.qh_qtd.specs.declared.queue_head.Qh.{Qh}
+use Rattle.qh_qtd.specs.declared.token.Token.{Token}
 use Rattle.toggle_error.specs.declared.host.Outcome.{Outcome}
 use Rattle.toggle_error.specs.declared.host.Outcome.TheVariants.{Wait}
 use Rattle.bandwidth.specs.declared.placements.Placement.{Placement}
@@ -351,6 +352,10 @@ module _ (fixed : Fixed) (x : Sides) (b w : World) (t : SoFar) (k : IsKnown fixe
               cmask = has.due.cmask ∙ h.goes.cmask;
               progress = has.due.progress ∙ h.goes.progress;
               tag = has.due.tag ∙ h.goes.tag;
+              far = record {
+                toggle = ap (λ (t : Token). t.toggle) has.due.token ∙ h.goes.far.toggle;
+                left = ap (λ (t : Token). t.total) has.due.token ∙ h.goes.far.left;
+              };
             };
             out = λ on is.
                 h.out (ap (λ (c : Control). c.part) (sym aside.control) ∙ on)
