@@ -7,3 +7,4 @@ pub mod Splits
 pub mod SplitSamples
 pub mod SplitsFollow
 pub mod SplitsTaken
+pub mod BelowStays

@@ -62,3 +62,5 @@ pub mod StartCame
 pub mod SplitsTold
 pub mod SplitsDone
 pub mod SplitFrameSampled
+pub mod BelowStays
+pub mod BelowSampled

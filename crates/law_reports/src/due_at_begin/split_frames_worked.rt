@@ -1,12 +1,14 @@
 //! Worked rows of split transactions along their frame, which the check computes: a full-speed keyboard behind a hub in microframes 0 and 2
 //! of frame 128 (EHCI 1.0, 4.12.2.4; USB 2.0, 11.18 and 11.20).
-ghost use Rattle.std.specs.Prelude.{◌≡◌, []};
+ghost use Rattle.std.specs.Prelude.{◌≡◌, [], slice_get};
 ghost use Rattle.tt_pipeline.specs.declared.entry.Entry.{Entry};
 ghost use Rattle.claims_world.specs.QueuesMade.{HasMade};
 ghost use Rattle.claims_world.specs.Results.{IsToldBy};
-ghost use Rattle.law_world.specs.memory.Samples.{keyboard};
+ghost use Rattle.bus_wire.specs.Bus.{fixed_of};
+ghost use Rattle.law_world.specs.memory.Samples.{keyboard, keyboard_and_disk};
 ghost use Rattle.law_microframes.specs.due.repeats.Samples.{waiting, pressed};
 ghost use Rattle.claims_world.specs.SplitFrames.{IsAnswer, IsNotYet, IsEntryOf, HasCome, IsDoneBy};
+ghost use Rattle.law_reports.specs.due_at_begin.BelowStays.{IsNotHigh, StaysBelow};
 ghost use Rattle.law_reports.specs.due_at_begin.SplitSamples.{starting, started_in, made_in, its_queue, pressed_head, other_toggle};
 ghost use Rattle.law_reports.specs.due_at_begin.SplitsTaken.{IsDoneOf};
 
@@ -35,4 +37,13 @@ pub fn a_split_is_done()
 pub fn a_split_is_taken()
     ensures taken { IsDoneOf pressed_head (started_in pressed 1) its_queue keyboard (made_in pressed 4) }
     ensures other { IsDoneOf (other_toggle pressed_head) (started_in pressed 1) its_queue keyboard (made_in pressed 4) → ⊥ }
+{}
+
+/// The keyboard, device 0, has no endpoint on the high-speed bus, and the disk has one. In microframe 2 the number of its next packet below
+/// stays as the Begin left it, which counted those of its answer.
+pub fn a_keyboard_stays_below()
+    ensures below { IsNotHigh (fixed_of keyboard_and_disk) 0 }
+    ensures high { IsNotHigh (fixed_of keyboard_and_disk) 1 → ⊥ }
+    ensures stays { slice_get (started_in pressed 4).bus.below 1 ≡ slice_get (started_in pressed 1).bus.below 1 }
+    ensures counts { StaysBelow 0 pressed.bus (started_in pressed 1).bus → ⊥ }
 {}

@@ -1,4 +1,5 @@
 //! The split transactions of interrupt endpoints below hubs that are due as their microframe begins (EHCI 1.0, 4.12.2.4; USB 2.0, 11.20).
+ghost use Rattle.law_reports.specs.due_at_begin.BelowStays.{TextsLeaveBelow};
 ghost use Rattle.law_reports.specs.due_at_begin.Splits.{TextsMakeSplits, TextsTakeResults, TextsKeepSplitFrames};
 ghost use Rattle.law_reports.specs.due_at_begin.SplitsFollow.{TextsFollowStarts};
 ghost use Rattle.law_reports.specs.due_at_begin.SplitsTaken.{TextsTakeSplits};
@@ -36,4 +37,10 @@ pub fn texts_keep_split_frames()
 /// the start-split nor a complete-split nor its answer is lost, data with that toggle for which there was room moved, or what was sent.
 pub fn texts_take_splits()
     ensures { TextsTakeSplits }
+{}
+
+/// Within a microframe no device below a hub changes, nor the number of the next packet of an endpoint below: so what a translator asks as
+/// the next microframe begins is asked of a device that is as this Begin left it, but for what else is asked of it then.
+pub fn texts_leave_below()
+    ensures { TextsLeaveBelow }
 {}

@@ -84,10 +84,10 @@ module _ (R : List Entry → List Entry → Type 0) (same : (es : List Entry) �
 -- ---- who is asked
 
 -- the seat at the place of the endpoint that is asked
-record IsSeatOf (fixed : Fixed) (b : Bus) (split : Split) (e : Asked) : Type 0 where
-  seat : Seat
-  there : slice_get fixed.seats e.place ≡ Some seat
-  who : e.who ≡ hears b split seat.owner
+pub record IsSeatOf (fixed : Fixed) (b : Bus) (split : Split) (e : Asked) : Type 0 where
+  pub seat : Seat
+  pub there : slice_get fixed.seats e.place ≡ Some seat
+  pub who : e.who ≡ hears b split seat.owner
 
 module _ (fixed : Fixed) (b : Bus) (split : Split) where
   abbrev asked_with : ℕ → Seat → ℕ → Asked
@@ -105,7 +105,7 @@ module _ (fixed : Fixed) (b : Bus) (split : Split) where
   of_seat place None e there is = absurd cc
   of_seat place (Some seat) e there is = of_packet place seat (slice_get b.high place) e there is
 
-  of_place : (o : Option ℕ) (e : Asked) → option_and_then (asked_at fixed b split) o ≡ Some e → IsSeatOf fixed b split e
+  pub of_place : (o : Option ℕ) (e : Asked) → option_and_then (asked_at fixed b split) o ≡ Some e → IsSeatOf fixed b split e
   of_place None e is = absurd cc
   of_place (Some place) e is = of_seat place (slice_get fixed.seats place) e refl is
 
