@@ -20,7 +20,7 @@ use Rattle.law_reports.proofs.lemmas.due_at_begin.SitdMoments.{texts_serve_sitds
 use Rattle.law_reports.proofs.lemmas.due_at_begin.SlotMoments.{texts_do_slots_at_begin}
 use Rattle.law_reports.proofs.lemmas.due_at_begin.SplitDue.{texts_make_splits}
 use Rattle.law_reports.proofs.lemmas.due_at_begin.ResultDue.{texts_take_results}
-use Rattle.law_reports.proofs.lemmas.due_at_begin.SplitsTold.{texts_keep_split_frames}
+use Rattle.law_reports.proofs.lemmas.due_at_begin.SplitsDone.{texts_keep_split_frames}
 use Rattle.law_reports.proofs.lemmas.pipes.lemmas.below_hubs.BelowKept.{texts_keep_streams}
 use Rattle.law_reports.proofs.lemmas.requests.Kept.{texts_keep_requests}
 use Rattle.app_forms.specs.Scripts.{OfEachPlainScript}
