@@ -10,7 +10,7 @@
 //! - `sent_events`: The qTDs of each OUT endpoint are sent whole and in turn, so too.
 //! - `takers`: Each OUT endpoint has its taker on the bus; and where what it took begins what was put, so it is in the report.
 //! - `what_was_put`: What each device took begins what was put, so the OUT streams are right too.
-//! - `worked`, `below_worked`, `puts_worked`: Worked rows.
+//! - `worked`, `below_worked`, `late_worked`, `puts_worked`: Worked rows.
 //!
 //! The module has no code of its own: each function is a law, and its body is empty.
 
@@ -18,6 +18,7 @@ pub mod below_hubs;
 pub mod below_worked;
 pub mod hub_setups;
 pub mod keeping;
+pub mod late_worked;
 pub mod piped_events;
 pub mod puts_worked;
 pub mod reports;

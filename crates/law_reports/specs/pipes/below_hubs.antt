@@ -7,4 +7,5 @@ pub mod Samples
 pub mod Inward
 pub mod InwardLaws
 pub mod Late
+pub mod LateSamples
 pub mod DeafLaws

@@ -34,5 +34,7 @@ pub mod LateSteps
 pub mod LateRuns
 pub mod InwardRuns
 pub mod InwardReporting
+pub mod LateSampled
+pub mod InwardSampled
 pub mod DeafHubs
 pub mod DeafRuns
