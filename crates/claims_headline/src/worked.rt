@@ -1,13 +1,15 @@
 //! Worked rows of the headline and of pipes, which the check computes.
-ghost use Rattle.std.specs.Prelude.{◌≡◌, true, [], ◌∷◌, Some, None};
+ghost use Rattle.std.specs.Prelude.{◌≡◌, true, false, [], ◌∷◌, Some, None};
 ghost use Rattle.script_types.specs.declared.devices.Item.TheVariants.{Bytes};
 ghost use Rattle.usb_base.specs.declared.packets.EpKind.TheVariants.{Interrupt};
 ghost use Rattle.usb_base.specs.declared.packets.Speed.TheVariants.{Low};
+ghost use Rattle.endpoint_script.specs.Taking.{Taking};
+ghost use Rattle.word_mem.specs.Memory.{Mem};
 ghost use Rattle.toggle_error.specs.declared.host.Outcome.TheVariants.{Moved};
 ghost use Rattle.qh_qtd.specs.declared.queue_head.Qh.{Qh};
 ghost use Rattle.claims_report.specs.Samples.{script_of, line_of, report_of, sender, bulk};
 ghost use Rattle.claims_headline.specs.Headline.{IsOfStreams, TellsStreams};
-ghost use Rattle.claims_headline.specs.Pipes.{toggle_of_copy};
+ghost use Rattle.claims_headline.specs.Pipes.{toggle_of_copy, next_packet, AreNear};
 
 use usb_base::What;
 
@@ -33,4 +35,17 @@ pub fn a_copy_tells_the_toggle_after_its_transaction()
         → toggle_of_copy 4160 (Some (record { at = 4160; queue_head = q; settled = Some (Moved 2) })) true ≡ q.token.toggle }
     ensures before { (q : Qh) → toggle_of_copy 4160 (Some (record { at = 4160; queue_head = q; settled = None })) true ≡ true }
     ensures other { (q : Qh) → toggle_of_copy 4352 (Some (record { at = 4160; queue_head = q; settled = Some (Moved 2) })) true ≡ true }
+{}
+
+/// A device that took what was moved has the host's toggle; one that took the next packet, too, has the other. None took a packet twice,
+/// and none has the other toggle without that packet.
+pub fn a_device_is_level_or_one_packet_ahead()
+    ensures level { (m : Mem) (q : Qh)
+        → AreNear m q true (1 ∷ 2 ∷ []) (record { items = []; toggle = true; taken = 1 ∷ 2 ∷ []; room = 9 }) }
+    ensures ahead { (m : Mem) (q : Qh) → q.token.active ≡ true → next_packet m q ≡ 3 ∷ []
+        → AreNear m q true (1 ∷ 2 ∷ []) (record { items = []; toggle = false; taken = 1 ∷ 2 ∷ 3 ∷ []; room = 9 }) }
+    ensures not_twice { (m : Mem) (q : Qh)
+        → AreNear m q true (1 ∷ 2 ∷ []) (record { items = []; toggle = true; taken = 1 ∷ 2 ∷ 1 ∷ 2 ∷ []; room = 9 }) → ⊥ }
+    ensures not_turned { (m : Mem) (q : Qh) → q.token.active ≡ true → next_packet m q ≡ 3 ∷ []
+        → AreNear m q true (1 ∷ 2 ∷ []) (record { items = []; toggle = false; taken = 1 ∷ 2 ∷ []; room = 9 }) → ⊥ }
 {}
