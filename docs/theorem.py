@@ -112,7 +112,9 @@ SAYS = {
                     "`control` lines to that hub is such a request.",
     "pipes": "At each moment, of each bulk and interrupt IN endpoint at high speed that was opened, isn't given back and isn't unlinked, while no interrupt endpoint is being opened: its device knows the first packets of its stream to be "
              "accepted, and has the others still to send; the host accepted these packets, or one more, whose acknowledgement the device didn't hear; the toggle of the device, and that of the host, which words tell, or the copy in hand of a "
-             "transaction that isn't written back, are the parities of these numbers; and the bytes told of the endpoint begin the packets that the host accepted.",
+             "transaction that isn't written back, are the parities of these numbers; and the bytes told of the endpoint begin the packets that the host accepted. "
+             "Of each such OUT endpoint: its device took the bytes that the host counts as moved, and both have one toggle, or it took the packet, too, that memory holds as the host's next, and has the other toggle; or, where the queue head is halted, "
+             "it may be further, with the other toggle, and by which bytes isn't said. The bytes told begin those moved, and what was taken begins what was put.",
     "ends": "Whatever a script opens: at each moment, and after the run, no line follows the one that tells the end of a bulk, interrupt or isochronous endpoint, and nothing of it is pending then.",
     "misses": "At each moment each line that tells a missed microframe is of an endpoint at low or full speed, whatever a script loses, holds and asks.",
     "errors": "Where no line of a script loses or damages a packet between the controller and a hub or a device at high speed, and no interrupt endpoint at high speed ever answers with NYET: at each moment each line "

@@ -10,3 +10,4 @@ pub mod Causes
 pub mod Drawn
 pub mod Headline
 pub mod Pipes
+pub mod OutPipes

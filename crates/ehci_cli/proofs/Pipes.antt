@@ -1,6 +1,6 @@
 -- Both sides of the pipe of each bulk or interrupt IN endpoint at high speed agree at each moment of a script's run.
 use Rattle.std.proofs.Common.{◌≡◌, ◌≢◌, ℕ, ◌*◌, Bool, true, false, List, length, drop, take, Option, Some, None, ap, sym, subst, refl}
-use Rattle.std.proofs.Common.{◌∙◌, inl}
+use Rattle.std.proofs.Common.{slice_get, ◌∙◌, inl}
 use Rattle.std.specs.Prelude.{not, is_some}
 use Rattle.std.specs.List.{concat}
 use Rattle.std.proofs.lemmas.Bool.{cond_both, eq-eqb, and_from}
@@ -18,7 +18,7 @@ use Rattle.hc_copy.specs.Overlay.{settled_queue}
 use Rattle.periodic_walk.specs.declared.state.Hand.{Hand as FramesHand}
 use Rattle.hc_core.specs.declared.controller.MicroframePart.{MicroframePart}
 use Rattle.hc_core.specs.declared.controller.MicroframePart.TheVariants.{Over, Periodic, Asynchronous}
-use Rattle.bus_wire.specs.Bus.{fixed_of, opening_wired}
+use Rattle.bus_wire.specs.Bus.{Fixed, fixed_of, opening_wired}
 use Rattle.drv_table.specs.declared.content.Command.{Command}
 use Rattle.drv_table.specs.declared.content.Command.TheVariants as unfinished
 use Rattle.drv_table.specs.declared.content.Endpoint.{Endpoint}
@@ -29,8 +29,6 @@ use Rattle.claims_report.specs.Streams.{has_stream, items_of, told}
 use Rattle.claims_world.specs.Streams.{report_of}
 use Rattle.claims_headline.specs.Pipes.{toggle_of_copy, queue_copy, frame_copy, host_toggle, opens_now}
 use Rattle.claims_headline.specs.Pipes.{IsOpenIn, InPipeAgrees, InPipesAgree}
-use Rattle.app_forms.specs.Scripts.{OfEachPlainScript}
-use Rattle.ehci_cli.proofs.Each.{of_each_plain}
 use Rattle.bus_world.specs.Budgets.{moment}
 use Rattle.bus_world.specs.World.{World}
 use Rattle.law_structures.proofs.lemmas.lent_structures.Reading.{head_read}
@@ -55,7 +53,7 @@ use Rattle.law_world.proofs.Common2.{told_first}
 use Rattle.law_world.proofs.lemmas.memory.HarvestKept.{tells_of}
 use Rattle.law_reports.specs.lines.Lined.{in_hand}
 use Rattle.law_reports.specs.lines.TellingLaws.{IsToldWorld}
-use Rattle.law_reports.specs.pipes.Declared.{sides_of, IsDeclaredBy}
+use Rattle.law_reports.specs.pipes.Declared.{Sides, sides_of, IsDeclaredBy}
 use Rattle.law_reports.specs.pipes.Piped.{asked_as, IsPiped, HasFollowed}
 use Rattle.law_reports.proofs.Common.{no_iso}
 use Rattle.law_reports.proofs.lemmas.pipes.Begun.{on_ins, named}
@@ -111,7 +109,7 @@ module _ (w : World) (s : Standing) (mixed : IsMixedAt s w) (n : ℕ) (q : Qh) w
       ∙ ap (λ (o : Option Held). toggle_of_copy n o q.token.toggle) mixed.now.framed.runs.ring.held
       ∙ ring_toggle n q s.hand ∙ ap (λ (f : FrameHand). hand_toggle (joined s.hand f) n q) (sym nothing)
 
-  by_part : (p : MicroframePart) → w.control.part ≡ p → host_toggle w n q ≡ hand_toggle (joined s.hand s.frame) n q
+  pub by_part : (p : MicroframePart) → w.control.part ≡ p → host_toggle w n q ≡ hand_toggle (joined s.hand s.frame) n q
   by_part Periodic is = in_frames is
   by_part Over is = aside Over is over_apart (λ h. refl)
   by_part Asynchronous is = aside Asynchronous is ring_apart (λ h. refl)
@@ -127,24 +125,52 @@ no_opening xs (Some unfinished.Chain) b off e = cc
 no_opening xs (Some (unfinished.Iso m t count)) b off e = cc
 no_opening xs (Some (unfinished.Unchain m)) b off e = cc
 
-module _ (w : World) (e : ℕ) (x : Endpoint) (is_open : IsOpenIn w.driver e x) where
+module _ (w : World) (e : ℕ) (x : Endpoint) (stream : has_stream x.desc.kind ≡ true) (kept : x.gone ≡ false)
+    (linked : is_periodic x.desc.kind ≡ false → x.linked ≡ true) (opened : opens_now w.driver.command x.queue ≡ false) where
   same : queued_endpoint x ≡ with_queue x
-  same = of_queue x (no_iso x.desc.kind is_open.stream)
+  same = of_queue x (no_iso x.desc.kind stream)
 
   is_linked : (queued_endpoint x).linked ≡ true
   is_linked =
       ap (λ (z : Endpoint). z.linked) same
-      ∙ cond_both (is_periodic x.desc.kind) (not x.gone) x.linked (λ b. b ≡ true) (λ _. ap not is_open.kept) (λ off. is_open.linked off)
+      ∙ cond_both (is_periodic x.desc.kind) (not x.gone) x.linked (λ b. b ≡ true) (λ _. ap not kept) (λ off. linked off)
 
-  is_met : IsMet (queued w.driver) e (queued_endpoint x)
+  pub is_met : IsMet (queued w.driver) e (queued_endpoint x)
   is_met = record {
     there = record {
       linked = subst (λ (b : ℕ). (queued w.driver).command ≢ Some (unfinished.Open b)) (sym (ap (λ (z : Endpoint). z.queue) same))
-          (no_opening w.driver.endpoints w.driver.command x.queue is_open.opened);
-      kept = ap (λ (z : Endpoint). z.gone) same ∙ is_open.kept;
+          (no_opening w.driver.endpoints w.driver.command x.queue opened);
+      kept = ap (λ (z : Endpoint). z.gone) same ∙ kept;
     };
     near = linked_met (queued w.driver) e (queued_endpoint x) is_linked;
   }
+
+-- ---- what is told of it
+
+module _ (fixed : Fixed) (sides : Sides) (w : World) (f : HasFollowed fixed sides w) (e : ℕ) (x : Endpoint)
+    (here : slice_get w.driver.endpoints e ≡ Some x) (stream : has_stream x.desc.kind ≡ true) (kept : x.gone ≡ false)
+    (other : x.desc.name.way ≢ ways.Ctl) where
+  to : IsToldWorld w
+  to = record {
+    standing = f.standing;
+    lines = f.lines;
+    mixed = f.followed.piped.mixed;
+    telling = f.followed.piped.telling;
+    going = f.followed.piped.going;
+  }
+
+  each : IsTold w to e x → IsPrefix (to.telling.told.told e) (concat (f.lines.acc (32 * x.queue)))
+  unfolding to
+  each (told_then gone is) = absurd (false≢true (sym kept ∙ gone))
+  each (told_none is) =
+      subst (λ (xs : List ℕ). IsPrefix xs (concat (f.lines.acc (32 * x.queue)))) (sym is) (concat (f.lines.acc (32 * x.queue)), refl)
+  each (told_there there front) = front
+
+  pub told_begins : IsPrefix (told (report_of fixed w) x.desc.name) (concat (f.lines.acc (32 * x.queue)))
+  told_begins =
+      told_first (told (report_of fixed w) x.desc.name) (to.telling.told.held e) (to.telling.told.told e)
+      (concat (f.lines.acc (32 * x.queue))) (lines_told w to e x here stream other)
+      (each (is_told w to e x here stream other))
 
 -- ---- a moment
 
@@ -173,15 +199,17 @@ module _ (text : List ℕ) (s : Script) (spelled : Spells text s) (k e : ℕ) (x
       subst (λ (v : Way). IsDeclaredBy (sides_of s) x.desc v) way (f.followed.piped.declared e x is_open.here)
       ∙ and_from (has_stream x.desc.kind) (is_high x.desc.speed) is_open.stream is_open.high
 
+  met : IsMet (queued (moment s k).world.driver) e (queued_endpoint x)
+  met = is_met w e x is_open.stream is_open.kept is_open.linked is_open.opened
+
   its : IsPipe ((sides_of s).packets x.desc.name.addr x.desc.name.num)
       (sender_of (wired (fixed_of s) (moment s k).world) x.desc.name.addr x.desc.name.num) (f.lines.acc (32 * x.queue)) f.standing.parts
       (in_hand f.standing) (32 * x.queue) (asked_as x.desc)
   its =
-      let on = on_ins (fixed_of s) (sides_of s) f.standing f.lines f.heads w f.followed.piped e x is_open.here (is_met w e x is_open) way
-      sends in
+      let on = on_ins (fixed_of s) (sides_of s) f.standing f.lines f.heads w f.followed.piped e x is_open.here met way sends in
       subst (λ (u : Told). IsPipe ((sides_of s).packets u.addr u.ep) (sender_of (wired (fixed_of s) w) u.addr u.ep) (f.lines.acc n)
       f.standing.parts (in_hand f.standing) n u)
-      (named (fixed_of s) (sides_of s) f.standing f.lines f.heads w f.followed.piped e x is_open.here (is_met w e x is_open))
+      (named (fixed_of s) (sides_of s) f.standing f.lines f.heads w f.followed.piped e x is_open.here met)
       (f.followed.piped.pipes.in_pipes.pipes n on)
 
   found : HasSender (wired (fixed_of s) (moment s k).world) x.desc.name.addr x.desc.name.num its.sender
@@ -198,32 +226,8 @@ module _ (text : List ℕ) (s : Script) (spelled : Spells text s) (k e : ℕ) (x
           ∙ opening_sends s x.desc.name.addr x.desc.name.num z (texts_have_names text s spelled).own is
           ∙ ap (λ (m : EpName). packets_of (items_of s m)) (named_in x.desc.name way)
 
-  -- ---- what is told of it
-
-  to : IsToldWorld (moment s k).world
-  to = record {
-    standing = f.standing;
-    lines = f.lines;
-    mixed = f.followed.piped.mixed;
-    telling = f.followed.piped.telling;
-    going = f.followed.piped.going;
-  }
-
   other : x.desc.name.way ≢ ways.Ctl
   other is = let no : ways.In ≡ ways.Ctl = sym way ∙ is in cc
-
-  each : IsTold w to e x → IsPrefix (to.telling.told.told e) (concat (f.lines.acc (32 * x.queue)))
-  unfolding f to
-  each (told_then gone is) = absurd (false≢true (sym is_open.kept ∙ gone))
-  each (told_none is) =
-      subst (λ (xs : List ℕ). IsPrefix xs (concat (f.lines.acc (32 * x.queue)))) (sym is) (concat (f.lines.acc (32 * x.queue)), refl)
-  each (told_there there front) = front
-
-  begins : IsPrefix (told (report_of (fixed_of s) (moment s k).world) x.desc.name) (concat (f.lines.acc (32 * x.queue)))
-  begins =
-      told_first (told (report_of (fixed_of s) w) x.desc.name) (to.telling.told.held e) (to.telling.told.told e)
-      (concat (f.lines.acc (32 * x.queue))) (lines_told w to e x is_open.here is_open.stream other)
-      (each (is_told w to e x is_open.here is_open.stream other))
 
   agrees : InPipeAgrees s (moment s k).world x
   agrees = record {
@@ -254,11 +258,8 @@ module _ (text : List ℕ) (s : Script) (spelled : Spells text s) (k e : ℕ) (x
         (concat (take (length (f.lines.acc n)) ps)))
         stream_is
         (subst (λ (xs : List (List ℕ)). IsPrefix (told (report_of (fixed_of s) w) x.desc.name) (concat xs)) its.half.agrees.in_order
-        begins);
+        (told_begins (fixed_of s) (sides_of s) w f e x is_open.here is_open.stream is_open.kept other));
   }
 
-texts_keep_in_pipes : (text : List ℕ) (s : Script) → Spells text s → InPipesAgree s
+pub texts_keep_in_pipes : (text : List ℕ) (s : Script) → Spells text s → InPipesAgree s
 texts_keep_in_pipes text s spelled k e x is_open = agrees text s spelled k e x is_open
-
-pub source_keeps_in_pipes : (words : List (List ℕ)) (left : Option (List ℕ)) → OfEachPlainScript InPipesAgree words left
-source_keeps_in_pipes = of_each_plain InPipesAgree texts_keep_in_pipes

@@ -1,7 +1,7 @@
 ghost use Rattle.std.specs.Prelude.{◌≡◌, ℕ, ◌≤◌, ◌↔◌, map, string_bytes, IfSome};
 ghost use Rattle.bus_world.specs.BudgetsAtWork.{AdmitsAtWork};
 ghost use Rattle.claims_headline.specs.Headline.{KeepsHeadline};
-ghost use Rattle.claims_headline.specs.Pipes.{InPipesAgree};
+ghost use Rattle.claims_headline.specs.Pipes.{PipesAgree};
 ghost use Rattle.claims_world.specs.Schedule.{KeepsScheduleThroughout};
 ghost use Rattle.claims_world.specs.Lent.{KeepsToLentThroughout};
 ghost use Rattle.claims_world.specs.Owned.{OwnsItsBlocksThroughout};
@@ -229,7 +229,7 @@ pub fn ehci<S: Source, K: Sink>(
     ensures sitds_at_begin { OfEachPlainScript SitdsAtBeginAreServed (map string_bytes words.now) (S.left source.old) }
     ensures goes_on { OfEachPlainScript KeepsToWork (map string_bytes words.now) (S.left source.old) }
     ensures streams { OfEachPlainScript KeepsStreams (map string_bytes words.now) (S.left source.old) }
-    ensures pipes { OfEachPlainScript InPipesAgree (map string_bytes words.now) (S.left source.old) }
+    ensures pipes { OfEachPlainScript PipesAgree (map string_bytes words.now) (S.left source.old) }
     ensures ends { OfEachPlainScript EndsOnce (map string_bytes words.now) (S.left source.old) }
     ensures misses { OfEachPlainScript MissesAreBelowThroughout (map string_bytes words.now) (S.left source.old) }
     ensures errors { OfEachPlainScript KeepsErrors (map string_bytes words.now) (S.left source.old) }

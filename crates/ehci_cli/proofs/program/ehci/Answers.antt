@@ -4,7 +4,7 @@ use Rattle.ehci_cli.proofs.Memory.{source_keeps_memory, source_reaches_lent, sou
 use Rattle.ehci_cli.proofs.Memory.{source_keeps_links}
 use Rattle.ehci_cli.proofs.Drawn.{load_is_plain}
 use Rattle.ehci_cli.proofs.Headline.{source_keeps_headline}
-use Rattle.ehci_cli.proofs.Pipes.{source_keeps_in_pipes}
+use Rattle.ehci_cli.proofs.OutPipes.{source_keeps_pipes}
 use Rattle.ehci_cli.proofs.Places.{load_has_places}
 use Rattle.ehci_cli.proofs.Requests.{source_keeps_requests}
 use Rattle.ehci_cli.proofs.Streams.{source_ends_once, source_misses_below, source_keeps_errors, source_keeps_streams}
@@ -113,7 +113,7 @@ pub returns-clause-streams : goal.returns-clause-streams
 returns-clause-streams g c = source_keeps_streams _ _
 
 pub returns-clause-pipes : goal.returns-clause-pipes
-returns-clause-pipes g c = source_keeps_in_pipes _ _
+returns-clause-pipes g c = source_keeps_pipes _ _
 
 pub returns-clause-ends : goal.returns-clause-ends
 returns-clause-ends g c = source_ends_once _ _
