@@ -1,13 +1,17 @@
 //! Worked rows of the headline and of pipes, which the check computes.
-ghost use Rattle.std.specs.Prelude.{◌≡◌, true, false, [], ◌∷◌, Some, None};
-ghost use Rattle.script_types.specs.declared.devices.Item.TheVariants.{Bytes};
+ghost use Rattle.std.specs.Prelude.{◌≡◌, ℕ, ◌+◌, true, false, List, [], ◌∷◌, Some, None};
+ghost use Rattle.script_types.specs.declared.devices.Item.{Item};
+ghost use Rattle.script_types.specs.declared.devices.Item.TheVariants.{Bytes, Nak};
+ghost use Rattle.script_types.specs.declared.scripts.Script.{Script};
 ghost use Rattle.usb_base.specs.declared.packets.EpKind.TheVariants.{Interrupt};
 ghost use Rattle.usb_base.specs.declared.packets.Speed.TheVariants.{Low};
 ghost use Rattle.endpoint_script.specs.Taking.{Taking};
 ghost use Rattle.word_mem.specs.Memory.{Mem};
 ghost use Rattle.toggle_error.specs.declared.host.Outcome.TheVariants.{Moved};
 ghost use Rattle.qh_qtd.specs.declared.queue_head.Qh.{Qh};
+ghost use Rattle.bus_world.specs.World.{World};
 ghost use Rattle.claims_report.specs.Samples.{script_of, line_of, report_of, sender, bulk};
+ghost use Rattle.claims_headline.specs.Due.{HasPacket};
 ghost use Rattle.claims_headline.specs.Headline.{IsOfStreams, TellsStreams};
 ghost use Rattle.claims_headline.specs.Pipes.{toggle_of_copy, next_packet, AreNear};
 
@@ -48,4 +52,10 @@ pub fn a_device_is_level_or_one_packet_ahead()
         → AreNear m q true (1 ∷ 2 ∷ []) (record { items = []; toggle = true; taken = 1 ∷ 2 ∷ 1 ∷ 2 ∷ []; room = 9 }) → ⊥ }
     ensures not_turned { (m : Mem) (q : Qh) → q.token.active ≡ true → next_packet m q ≡ 3 ∷ []
         → AreNear m q true (1 ∷ 2 ∷ []) (record { items = []; toggle = false; taken = 1 ∷ 2 ∷ []; room = 9 }) → ⊥ }
+{}
+
+/// A packet that the host has already, since the device didn't hear it accepted, is none for its transfer; nor is a NAK.
+pub fn a_packet_that_comes_again_is_none()
+    ensures again { (s : Script) (b : World) (e q : ℕ) (h : HasPacket s b e q) → h.pipe.accepted ≡ h.pipe.known + 1 → ⊥ }
+    ensures nak { (s : Script) (b : World) (e q : ℕ) (h : HasPacket s b e q) (n : ℕ) (rest : List Item) → h.sending.items ≡ Nak n ∷ rest → ⊥ }
 {}

@@ -11,3 +11,4 @@ pub mod Drawn
 pub mod Headline
 pub mod Pipes
 pub mod OutPipes
+pub mod Due

@@ -1,5 +1,6 @@
 ghost use Rattle.std.specs.Prelude.{◌≡◌, ℕ, ◌≤◌, ◌↔◌, map, string_bytes, IfSome};
 ghost use Rattle.bus_world.specs.BudgetsAtWork.{AdmitsAtWork};
+ghost use Rattle.claims_headline.specs.Due.{MovesPackets};
 ghost use Rattle.claims_headline.specs.Headline.{KeepsHeadline};
 ghost use Rattle.claims_headline.specs.Pipes.{PipesAgree};
 ghost use Rattle.claims_world.specs.Schedule.{KeepsScheduleThroughout};
@@ -220,6 +221,7 @@ pub fn ehci<S: Source, K: Sink>(
     ensures translators { OfEachPlainScript KeepsTranslators (map string_bytes words.now) (S.left source.old) }
     ensures due { OfEachPlainScript KeepsDue (map string_bytes words.now) (S.left source.old) }
     ensures due_at_begin { OfEachPlainScript DueAtBeginIsDone (map string_bytes words.now) (S.left source.old) }
+    ensures packets { OfEachPlainScript MovesPackets (map string_bytes words.now) (S.left source.old) }
     ensures slots { OfEachPlainScript SlotsAreDone (map string_bytes words.now) (S.left source.old) }
     ensures slots_at_begin { OfEachPlainScript SlotsAtBeginAreDone (map string_bytes words.now) (S.left source.old) }
     ensures splits_at_begin { OfEachPlainScript KeepsSplits (map string_bytes words.now) (S.left source.old) }

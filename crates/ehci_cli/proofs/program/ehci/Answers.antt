@@ -3,6 +3,7 @@ use Rattle.ehci_cli.proofs.Causes.{source_has_causes, source_is_heard, source_re
 use Rattle.ehci_cli.proofs.Memory.{source_keeps_memory, source_reaches_lent, source_keeps_to_owners, source_gives_back_last, source_leaves_what_is_back}
 use Rattle.ehci_cli.proofs.Memory.{source_keeps_links}
 use Rattle.ehci_cli.proofs.Drawn.{load_is_plain}
+use Rattle.ehci_cli.proofs.Due.{source_moves_packets}
 use Rattle.ehci_cli.proofs.Headline.{source_keeps_headline}
 use Rattle.ehci_cli.proofs.OutPipes.{source_keeps_pipes}
 use Rattle.ehci_cli.proofs.Places.{load_has_places}
@@ -84,6 +85,9 @@ returns-clause-due g c = source_keeps_due _ _
 
 pub returns-clause-due_at_begin : goal.returns-clause-due_at_begin
 returns-clause-due_at_begin g c = source_does_what_is_due_at_begin _ _
+
+pub returns-clause-packets : goal.returns-clause-packets
+returns-clause-packets g c = source_moves_packets _ _
 
 pub returns-clause-slots : goal.returns-clause-slots
 returns-clause-slots g c = source_does_slots _ _
