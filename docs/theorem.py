@@ -65,6 +65,10 @@ SAYS = {
            "complete-splits made again.",
     "due_at_begin": "Once the walk of the frames is over in a microframe, what was due of an interrupt endpoint of high speed as the microframe began (a transfer, a microframe of its S-mask that isn't held, a device that is ready, "
                     "none of the next three packets lost) moved its packet and was written back, unless a cancel of it was accepted since, and where no more than 4 microseconds went for complete-splits made again.",
+    "packets": "An interrupt IN endpoint at high speed that goes on, isn't halted and is in the frame list has a transfer that is stored and of which a qTD is still active, and its device has a packet for it as a microframe begins: no NAK, "
+               "and no longer than what comes next has room for. Where the microframe is one of its S-mask that isn't held, its device knows as many packets to be accepted as the host accepted (`pipes`), and none of the next three "
+               "packets is lost or damaged, a transaction is due then in the sense of `due_at_begin`; so the packet moved and was written back once the walk of the frames is over, unless a cancel of the endpoint was accepted since, "
+               "and where no more than 4 microseconds went for complete-splits made again.",
     "slots": "Once the walk of the frames is over in a microframe that isn't held, where no more than 4 microseconds went for complete-splits made again: the iTDs to which it came with the slot of this microframe active are those that were "
              "written back in it.",
     "slots_at_begin": "Once the walk of the frames is over in such a microframe: each slot of an iTD that was active as the microframe began, "
