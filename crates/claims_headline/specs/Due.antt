@@ -1,14 +1,14 @@
--- What is due of an interrupt IN endpoint at high speed, told by its transfers and by the counts of its pipe, and that it is done (EHCI 1.0,
--- 3.5, 3.6, 4.7, 4.10 and 4.10.2; USB 2.0, 5.7.4, 8.5 and 8.6).
+-- What is due of an interrupt IN endpoint at high speed, told by its transfers and by the counts of its pipe, and that it is done (EHCI
+-- 1.0, 3.5, 3.6, 4.7, 4.10 and 4.10.2; USB 2.0, 5.7.4, 8.5 and 8.6).
 --     HasPacket s b e q    as the microframe begins that left the world b: endpoint e, an interrupt IN endpoint at high speed, is in the
 --                          frame list, its queue head in block q; its placement has the frame, its S-mask the microframe, which isn't held;
 --                          it goes on, and its queue head isn't halted; a transfer of it is stored and unfinished; its device has a packet
 --                          for it and no NAK, no longer than what comes next has room for; it knows each packet to be accepted that the
 --                          host accepted; and none of the next three packets of the endpoint is lost or damaged
 --     PacketsAreDue s      as each microframe of the run of a script begins, a transaction of such an endpoint is due in it
---     PacketsMove s        at each moment at which the walk of the frames is over: that packet moved in the microframe and was written back,
---                          unless the endpoint was cancelled since, where no more than 4 microseconds went for complete-splits that were
---                          made again
+--     PacketsMove s        at each moment at which the walk of the frames is over: that packet moved in the microframe and was written
+--                          back, unless the endpoint was cancelled since, where no more than 4 microseconds went for complete-splits
+--                          that were made again
 --     MovesPackets s       both
 use Rattle.std.specs.Prelude.{◌≡◌, ℕ, ◌*◌, ◌≤◌, true, false, List, ◌∷◌, length, slice_get, Some, None}
 use Rattle.usb_base.specs.declared.packets.Speed.TheVariants.{High}

@@ -57,5 +57,6 @@ pub fn a_device_is_level_or_one_packet_ahead()
 /// A packet that the host has already, since the device didn't hear it accepted, is none for its transfer; nor is a NAK.
 pub fn a_packet_that_comes_again_is_none()
     ensures again { (s : Script) (b : World) (e q : ℕ) (h : HasPacket s b e q) → h.pipe.accepted ≡ h.pipe.known + 1 → ⊥ }
-    ensures nak { (s : Script) (b : World) (e q : ℕ) (h : HasPacket s b e q) (n : ℕ) (rest : List Item) → h.sending.items ≡ Nak n ∷ rest → ⊥ }
+    ensures nak { (s : Script) (b : World) (e q : ℕ) (h : HasPacket s b e q) (n : ℕ) (rest : List Item)
+        → h.sending.items ≡ Nak n ∷ rest → ⊥ }
 {}

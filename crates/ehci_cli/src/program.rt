@@ -138,7 +138,8 @@ use usb_base::{Sink, Source};
 /// the frame list as the microframe began and is in it still; and of each of high speed that had a transfer then, in a microframe of its
 /// S-mask that isn't held, with its device ready and none of the transaction's packets lost, the packet moved and was written back, where
 /// no more than 4 microseconds went for complete-splits made again. So it was of each of high speed for which all this stood as the
-/// microframe began, whatever the walk came to before, but of one of which a cancel was accepted since. So is each slot of an iTD to
+/// microframe began, whatever the walk came to before, but of one of which a cancel was accepted since; and it stood for an IN whose
+/// transfer was stored and unfinished, and whose device had a packet for it and knew all that was accepted. So is each slot of an iTD to
 /// which the walk came while it was active: it is written back in its microframe; and each that was active as the microframe began, in an
 /// iTD that stays linked. Of an interrupt endpoint below a hub of which a complete-split was due as the microframe began, where neither it
 /// nor its answer is lost, the host heard what its translator had for it then; data that fit moved, and so did what was acknowledged,
@@ -157,7 +158,8 @@ use usb_base::{Sink, Source};
 /// throughout and after the run of a script none of whose `control` lines to the hub is such a request.
 ///
 /// At each moment the host has accepted the packets that the device of a bulk or interrupt IN endpoint at high speed knows to be accepted,
-/// or one more, with the toggle that belongs to it.
+/// or one more, with the toggle that belongs to it; and that of such an OUT endpoint took what the host counts as moved, or one packet
+/// more, with the other toggle.
 ///
 /// Whatever the script opens, no line follows the one that tells the end of a bulk, interrupt or isochronous endpoint, and nothing of it is
 /// pending then, at each moment and after the run. No line tells a missed microframe of an endpoint at high speed.
