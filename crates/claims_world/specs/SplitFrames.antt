@@ -25,6 +25,13 @@
 --     StartsAreDone s            where a start-split was due as a microframe began, and neither it nor a complete-split of it nor its
 --                                answer is lost: so it is by the end of the walk of the frames in the last microframe of its C-mask in the
 --                                frame, unless the endpoint is cancelled
+--     IsAsFar v q                the queue head q is as far as v: it has the same toggle, and as many bytes are left
+--     IsDoneOf v b n x ms        so it is done, and the queue head was as far as v, with packets as large, as the microframe began; and
+--                                where the answer is data with the toggle of v for which v has room, or the acknowledgement of what v
+--                                sent, these bytes of v moved, and it was written back so
+--     WasDoneOf v s i k n x      so it is in a microframe, from moment i on and before moment k
+--     StartsAreTaken s           where a start-split was due as a microframe began, and none of these is lost: so it is of what its queue
+--                                head came to then, by the same end
 --     KeepsSplitFrames s         all of this
 use Rattle.std.specs.Prelude.{◌≡◌, ◌≢◌, ℕ, suc, ◌/◌, ◌*◌, ◌≤◌, ◌<◌, ◌⊎◌, true, false, List, Some}
 use Rattle.std.specs.List.{find}
@@ -146,8 +153,34 @@ StartsAreDone s = (i k e q : ℕ) → i ≤ k → (d : IsStartDue (fixed_of s) (
     → IsLastIn d.split.placement.cmask (microframe_of (begun s k).control.frame.index) → IsPastFrames (moment s k).world
     → WasDone s i (suc k) (32 * q) d.split.there.endpoint.desc
 
+-- ---- of what the queue head came to as its start-split was due
+
+pub record IsAsFar (v q : Qh) : Type 0 where
+  pub toggle : q.token.toggle ≡ v.token.toggle
+  pub left : q.token.total ≡ v.token.total
+
+pub record IsDoneOf (v : Qh) (b : World) (n : ℕ) (x : EpDesc) (ms : List QueueMade) : Type 0 where
+  pub done : IsDoneBy b n x ms
+  pub far : IsAsFar v done.queue
+  pub packets : done.queue.max ≡ v.max
+  pub taken : (reply : Reply) (bytes : ℕ) → done.entry.exchange ≡ Made reply → MovesBy v x.name.way (result_of reply) bytes
+      → HasMade (IsTaken v n bytes) ms
+
+pub record WasDoneOf (v : Qh) (s : Script) (i k n : ℕ) (x : EpDesc) : Type 0 where
+  pub at : ℕ
+  pub from : i ≤ at
+  pub before : at < k
+  pub of : IsDoneOf v (begun s at) n x (queues_made s at)
+
+abbrev pub StartsAreTaken : Script → Type 0
+StartsAreTaken s = (i k e q : ℕ) → i ≤ k → (d : IsStartDue (fixed_of s) (begun s i) e q) → IsOneFrame s i k
+    → IsHeardFromBegin s i k d.split.there.endpoint.desc → IsUncancelled (moment s k).world.driver e
+    → IsLastIn d.split.placement.cmask (microframe_of (begun s k).control.frame.index) → IsPastFrames (moment s k).world
+    → WasDoneOf d.works s i (suc k) (32 * q) d.split.there.endpoint.desc
+
 pub record KeepsSplitFrames (s : Script) : Type 0 where
   pub follow : SplitsFollowInFrame s
   pub answered : CompletesAreAnswered s
   pub told : DevicesAreHeard s
   pub done : StartsAreDone s
+  pub taken : StartsAreTaken s

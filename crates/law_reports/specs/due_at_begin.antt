@@ -6,5 +6,4 @@ pub mod Framed
 pub mod Splits
 pub mod SplitSamples
 pub mod SplitsFollow
-pub mod SplitsTaken
 pub mod BelowStays

@@ -10,7 +10,7 @@ ghost use Rattle.law_microframes.specs.due.repeats.Samples.{waiting, pressed};
 ghost use Rattle.claims_world.specs.SplitFrames.{IsAnswer, IsNotYet, IsEntryOf, HasCome, IsDoneBy};
 ghost use Rattle.law_reports.specs.due_at_begin.BelowStays.{IsNotHigh, StaysBelow};
 ghost use Rattle.law_reports.specs.due_at_begin.SplitSamples.{starting, started_in, made_in, its_queue, pressed_head, other_toggle};
-ghost use Rattle.law_reports.specs.due_at_begin.SplitsTaken.{IsDoneOf};
+ghost use Rattle.claims_world.specs.SplitFrames.{IsDoneOf};
 
 /// Once the walk of the frames is over in microframe 0 the keyboard's start-split has come to its translator; before it was made it hadn't.
 pub fn a_start_split_comes()

@@ -2,7 +2,6 @@
 ghost use Rattle.law_reports.specs.due_at_begin.BelowStays.{TextsLeaveBelow};
 ghost use Rattle.law_reports.specs.due_at_begin.Splits.{TextsMakeSplits, TextsTakeResults, TextsKeepSplitFrames};
 ghost use Rattle.law_reports.specs.due_at_begin.SplitsFollow.{TextsFollowStarts};
-ghost use Rattle.law_reports.specs.due_at_begin.SplitsTaken.{TextsTakeSplits};
 
 /// Where the walk of the frames is over in a microframe, each start-split that was due as the microframe began was made in it, and its
 /// queue head was written back waiting for its complete-splits; and so was each complete-split of one that waited, in each microframe of
@@ -27,16 +26,10 @@ pub fn texts_follow_starts()
 
 /// After a start-split that was due as its microframe began, each microframe of the C-mask in the same frame begins with a complete-split due,
 /// until one is answered otherwise than NYET, unless the endpoint is cancelled, where the bus may be used in each microframe. Where neither
-/// the start-split nor a complete-split nor its answer is lost, the host heard by the last what the device said, and took it if it fits.
+/// the start-split nor a complete-split nor its answer is lost, the host heard by the last what the device said, and took it if it fits
+/// what the queue head came to as the start-split was due.
 pub fn texts_keep_split_frames()
     ensures { TextsKeepSplitFrames }
-{}
-
-/// What a device answers after a start-split that was due as its microframe began moves bytes of what its queue head came to then: as the
-/// microframe begins in which the host hears it, the queue head has that toggle, as many bytes left and packets as large. So where neither
-/// the start-split nor a complete-split nor its answer is lost, data with that toggle for which there was room moved, or what was sent.
-pub fn texts_take_splits()
-    ensures { TextsTakeSplits }
 {}
 
 /// Within a microframe no device below a hub changes, nor the number of the next packet of an endpoint below: so what a translator asks as

@@ -29,7 +29,7 @@ use Rattle.claims_world.specs.WithinLoad.{repeats}
 use Rattle.law_world.specs.memory.Mixed.{IsMixedWorld}
 use Rattle.law_microframes.specs.visits.Belonging.{HeadsHaveFields}
 use Rattle.claims_world.specs.SplitFrames.{IsAnswer, IsNotYet}
-use Rattle.law_reports.specs.due_at_begin.SplitsTaken.{IsAsFar}
+use Rattle.claims_world.specs.SplitFrames.{IsAsFar}
 use Rattle.law_reports.proofs.lemmas.due_at_begin.Answered.{complete_of, is_complete}
 use Rattle.law_reports.proofs.lemmas.due_at_begin.SplitDue.{Anything, Leaves, complete_due, complete_leaves}
 use Rattle.law_reports.proofs.lemmas.due_at_begin.SplitMoments.{IsDueOf}

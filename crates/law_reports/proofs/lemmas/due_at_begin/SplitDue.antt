@@ -29,7 +29,7 @@ use Rattle.law_microframes.specs.due.repeats.Hearing.{IsHeardOn}
 use Rattle.law_microframes.specs.visits.Belonging.{HaveFields, HeadsHaveFields}
 use Rattle.law_microframes.proofs.lemmas.visits.BelongReads.{HasReadFields, read_fields}
 use Rattle.law_reports.specs.due_at_begin.Splits.{TextsMakeSplits}
-use Rattle.law_reports.specs.due_at_begin.SplitsTaken.{IsAsFar}
+use Rattle.claims_world.specs.SplitFrames.{IsAsFar}
 use Rattle.law_reports.proofs.lemmas.due_at_begin.Aside.{its_words}
 use Rattle.law_reports.proofs.lemmas.due_at_begin.SplitHeads.{IsHeadOf, not_high}
 use Rattle.law_reports.proofs.lemmas.due_at_begin.SplitStages.{reply_to}

@@ -41,7 +41,7 @@ use Rattle.law_microframes.specs.due.repeats.Samples.{waiting, pressed}
 use Rattle.claims_world.specs.SplitFrames.{IsAnswer, IsNotYet, IsEntryOf, HasCome, IsDoneBy}
 use Rattle.law_reports.specs.due_at_begin.SplitSamples.{starting, started_in, made_in, its_queue, eight_bytes, its_head}
 use Rattle.law_reports.specs.due_at_begin.SplitSamples.{pressed_head, other_toggle}
-use Rattle.law_reports.specs.due_at_begin.SplitsTaken.{IsDoneOf}
+use Rattle.claims_world.specs.SplitFrames.{IsDoneOf}
 use Rattle.law_reports.proofs.lemmas.due_at_begin.ResultSampled.{result_is_taken, result_isnt_taken}
 
 -- ---- the start-split comes

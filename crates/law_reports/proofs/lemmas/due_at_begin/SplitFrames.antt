@@ -38,7 +38,7 @@ use Rattle.law_microframes.proofs.lemmas.time.SplitMasked.{scripts_keep_allowed}
 use Rattle.law_microframes.proofs.lemmas.translators.FrameIndex.{HasFrameIndex}
 use Rattle.law_microframes.proofs.lemmas.visits.BelongReads.{HasReadFields, read_fields}
 use Rattle.claims_world.specs.SplitFrames.{IsOneFrame, IsAnswer, IsNotYet, WasAnswered, SplitsFollowInFrame, CompletesAreAnswered}
-use Rattle.law_reports.specs.due_at_begin.SplitsTaken.{IsAsFar}
+use Rattle.claims_world.specs.SplitFrames.{IsAsFar}
 use Rattle.law_reports.specs.pipes.Declared.{sides_of}
 use Rattle.law_reports.proofs.lemmas.due_at_begin.Aside.{its_words}
 use Rattle.law_reports.proofs.lemmas.due_at_begin.BegunMoments.{so_as_begun, BeginsNow, begun_then}

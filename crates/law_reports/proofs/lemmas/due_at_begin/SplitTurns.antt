@@ -24,7 +24,7 @@ use Rattle.hc_interrupt.specs.Turns.{microframe_of, tag_of, waits, is_missed, co
 use Rattle.claims_world.specs.Due.{IsActiveToken}
 use Rattle.claims_world.specs.QueuesMade.{QueueMade}
 use Rattle.claims_world.specs.SplitsAtBegin.{IsStarted, IsCompleted}
-use Rattle.law_reports.specs.due_at_begin.SplitsTaken.{IsAsFar}
+use Rattle.claims_world.specs.SplitFrames.{IsAsFar}
 
 -- ---- queue heads that are alike in what tells the turn and the transaction
 

@@ -21,7 +21,7 @@ use Rattle.law_world.proofs.lemmas.memory.Together.{texts_stay_mixed}
 use Rattle.law_microframes.specs.due.repeats.Hearing.{IsHeardOn}
 use Rattle.law_microframes.proofs.lemmas.due.lemmas.repeats.AskedHeads.{no_control}
 use Rattle.law_reports.specs.due_at_begin.Splits.{TextsKeepSplitFrames}
-use Rattle.law_reports.specs.due_at_begin.SplitsTaken.{WasDoneOf, TextsTakeSplits}
+use Rattle.claims_world.specs.SplitFrames.{WasDoneOf, StartsAreTaken}
 use Rattle.law_reports.proofs.lemmas.due_at_begin.BegunMoments.{BeginsNow, begun_then}
 use Rattle.law_reports.proofs.lemmas.due_at_begin.RestingMicroframes.{before_then}
 use Rattle.law_reports.proofs.lemmas.due_at_begin.RestingMoments.{begin_part}
@@ -152,8 +152,8 @@ module _ (text : List ℕ) (s : Script) (spelled : Spells text s) where
     from_begin : DoneFrom (begun s i)
     from_begin = subst DoneFrom x.same from_then
 
-pub texts_take_splits : TextsTakeSplits
-texts_take_splits text s spelled i k e q less d one heard off last over =
+starts_are_taken : (text : List ℕ) (s : Script) → Spells text s → StartsAreTaken s
+starts_are_taken text s spelled i k e q less d one heard off last over =
     ⊎_elim {C = WasDoneOf d.works s i (suc k) (32 * q) d.split.there.endpoint.desc}
     (λ (same : begun s k ≡ begun s i). absurd (no_bit_yet text s spelled i e q d k same last.here))
     (λ (x : EndsWithin s i k). from_begin text s spelled i k e q one off over x d heard.begins heard.through last)
@@ -162,7 +162,7 @@ texts_take_splits text s spelled i k e q less d one heard off last over =
 starts_are_done : (text : List ℕ) (s : Script) → Spells text s → StartsAreDone s
 starts_are_done text s spelled i k e q less d one heard off last over =
     let x : WasDoneOf d.works s i (suc k) (32 * q) d.split.there.endpoint.desc =
-    texts_take_splits text s spelled i k e q less d one heard off last over in
+    starts_are_taken text s spelled i k e q less d one heard off last over in
     record { at = x.at; from = x.from; before = x.before; done = x.of.done }
 
 pub texts_keep_split_frames : TextsKeepSplitFrames
@@ -171,4 +171,5 @@ texts_keep_split_frames = λ text s spelled. record {
   answered = completes_are_answered text s spelled;
   told = devices_are_heard text s spelled;
   done = starts_are_done text s spelled;
+  taken = starts_are_taken text s spelled;
 }

@@ -42,7 +42,7 @@ use Rattle.law_world.specs.memory.Mixed.{IsMixedWorld}
 use Rattle.law_microframes.specs.time.DataQueues.{QueuesSendData}
 use Rattle.law_microframes.specs.visits.Belonging.{HeadsHaveFields}
 use Rattle.claims_world.specs.SplitFrames.{IsOneFrame, IsEntryOf, HasCome, IsHeardThroughout, DevicesAreHeard, IsDoneBy}
-use Rattle.law_reports.specs.due_at_begin.SplitsTaken.{IsAsFar, IsDoneOf, WasDoneOf}
+use Rattle.claims_world.specs.SplitFrames.{IsAsFar, IsDoneOf, WasDoneOf}
 use Rattle.law_reports.proofs.lemmas.due_at_begin.EntryFrames.{IsStagedIn, IsStagedFrom, staged_next}
 use Rattle.law_reports.proofs.lemmas.due_at_begin.NotYet.{IsAskedOnce, asked_leaves, nyet_or_not, GoesOn, is_answered, more_on, not_yet}
 use Rattle.law_reports.proofs.lemmas.due_at_begin.HubSeats.{hubs_are_zero}

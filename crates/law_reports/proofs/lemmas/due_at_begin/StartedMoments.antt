@@ -18,7 +18,7 @@ use Rattle.claims_world.specs.SplitsAtBegin.{IsStartDue}
 use Rattle.claims_world.specs.Visits.{IsPastFrames, frame_in}
 use Rattle.claims_world.specs.WithinLoad.{repeats}
 use Rattle.law_reports.specs.due_at_begin.SplitsFollow.{IsOutOfHand, StartsWait}
-use Rattle.law_reports.specs.due_at_begin.SplitsTaken.{IsAsFar}
+use Rattle.claims_world.specs.SplitFrames.{IsAsFar}
 use Rattle.law_reports.proofs.lemmas.due_at_begin.SplitDue.{Anything, IsStartedWaiting, start_waits_due}
 use Rattle.law_reports.proofs.lemmas.due_at_begin.SplitRuns.{splits_are_made}
 use Rattle.law_reports.proofs.lemmas.due_at_begin.SplitTurns.{as_far_as}

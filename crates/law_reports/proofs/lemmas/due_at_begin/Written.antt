@@ -42,7 +42,7 @@ use Rattle.law_microframes.specs.time.DataQueues.{QueuesSendData}
 use Rattle.law_microframes.specs.visits.Belonging.{HeadsHaveFields}
 use Rattle.law_microframes.proofs.lemmas.due.Turning.{no_fault}
 use Rattle.law_microframes.proofs.lemmas.due.Visiting.{writes as writes_step}
-use Rattle.law_reports.specs.due_at_begin.SplitsTaken.{IsAsFar}
+use Rattle.claims_world.specs.SplitFrames.{IsAsFar}
 use Rattle.law_reports.specs.lines.Lined.{Lines}
 use Rattle.law_reports.specs.pipes.Declared.{Sides}
 use Rattle.law_reports.specs.pipes.Piped.{Heads, IsPiped}
