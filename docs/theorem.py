@@ -96,7 +96,7 @@ SAYS = {
                     "complete-split of it nor the answer to one is lost: by the end of the walk of the frames in the last microframe of its C-mask "
                     "the host heard in a complete-split what the device said to the translator. So it is, whatever the translator had, where the "
                     "start-split isn't lost either and its hub heard no such request last in that microframe; "
-                    "and where that is data with the queue head's toggle for which it has room, or the acknowledgement of what it sent, these bytes moved.",
+                    "and where that is data with the toggle that its queue head came to as the start-split was due, for which it had room then, or the acknowledgement of what it sent, these bytes moved.",
     "sitds": "Once the walk of the frames is over in a microframe that isn't held, where no more than 4 microseconds went for complete-splits made "
              "again: the siTDs to which it came with a transaction to be made in this microframe are those that were written back after it, one for "
              "one: of an OUT a part, with which there is one fewer to send; of an IN its start-split, or a complete-split; parts and complete-splits "
